@@ -1,0 +1,9 @@
+pub mod Flats
+pub mod Working
+pub mod Tallies
+pub mod Building
+pub mod Changing
+pub mod Scanning
+pub mod Carrying
+pub mod Moving
+pub mod Asking

@@ -1,0 +1,3 @@
+pub mod candidate;
+pub mod faults;
+pub mod work;

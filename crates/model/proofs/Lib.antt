@@ -1,0 +1,14 @@
+pub mod Stacks
+pub mod Candidates
+pub mod Targets
+pub mod Changes
+pub mod Settling
+pub mod Handlings
+pub mod Destinations
+pub mod Soundness
+pub mod Remaining
+pub mod Depth
+pub mod Rounds
+pub mod Outcomes
+pub mod Honesty
+pub mod LookAhead

@@ -1,0 +1,64 @@
+-- What the search promises of legal handlings, over every sound bay, honest bound and budget.
+use mathlib.Core.Path.{_≡_, refl, sym, ap, subst, _∙_}
+use mathlib.Core.List.{List, [], _∷_}
+use mathlib.Core.Bool.{true, false}
+use Prim.Native.Nat.{ℕ, zero, suc, _+_, _≤_, _<_}
+use native.Mathlib.Omega.{arith}
+use lib.ListN.{length}
+use Rattle.model.specs.Bays.{Bay, Sound}
+use Rattle.model.specs.Targets.{target}
+use Rattle.model.specs.Moves.{Move, Handles, dests, relocations, settle}
+use Rattle.model.specs.Search.{Follows, Among, ways, next, Outcome, fewest, atLeast, noWay, searched, searchedWithin, rounds, over, deep}
+use Rattle.model.specs.Claims.{Honest, Unlimited}
+use Rattle.model.proofs.Rounds.{Laws, Meant, rounds-meant, rounds-same, same-plan, rounds-spent, OnBudget, cut-below}
+use Rattle.model.proofs.Settling.{settled, settles}
+use Rattle.model.proofs.Handlings.{followed, handled, planned, Handling}
+use Rattle.model.proofs.Soundness.{sound-settles}
+use Rattle.model.proofs.Remaining.{Fine, keeps, falls, left, left-small}
+
+laws : (h : Bay → ℕ) → Honest h → Laws h Fine left 672
+unfolding Fine
+laws h o =
+    record {
+      keeps = keeps;
+      falls = falls;
+      small = λ b f. o .small b (f .1);
+      honest = λ b ds f w. let p = planned ds b (f .0) w in omega (arith, o .honest b (f .1) (p .moves) (p .handles), ap length (p .along));
+    }
+
+fine : (b : Bay) → Sound b → Fine (settle b)
+unfolding Fine
+fine b so = (settled b, sound-settles (settles b) so)
+
+left-settled : (b : Bay) → Sound b → left (settle b) ≤ 672
+left-settled b so = left-small (settle b) (sound-settles (settles b) so)
+
+pub meant : (h : Bay → ℕ) → Honest h → (budget : ℕ) (b : Bay) → Sound b → Meant (settle b) (searched h budget b .0)
+unfolding searched searchedWithin
+meant h o budget b so =
+    rounds-meant h Fine left 672 (laws h o) budget 0 1345 (h (settle b)) (settle b) 0 (fine b so) (omega arith)
+    (omega (arith, left-settled b so)) (λ es w. laws h o .honest (settle b) es (fine b so) w)
+
+pub unlimited : (h : Bay → ℕ) → Honest h → (budget : ℕ) (b : Bay) → Sound b → Unlimited h budget b
+unfolding searched searchedWithin
+unlimited h o budget b so r x =
+    rounds-same h Fine left 672 (laws h o) budget x 0 (1345 + r) 1345 (h (settle b)) (settle b) 0 (fine b so) (omega arith) (omega arith)
+    (omega (arith, left-settled b so)) (omega (arith, left-settled b so))
+
+-- the rounds of a loop end: after one that cut something, the limit is still below 1344
+pub limit-below : (h : Bay → ℕ) → Honest h → (budget limit x : ℕ) (b : Bay) → Sound b → (n m : ℕ)
+    → deep h budget limit (suc (limit + x)) 0 (settle b) false n ≡ over true m → limit < 1344
+limit-below h o budget limit x b so n m e =
+    omega (arith, cut-below h Fine left 672 (laws h o) budget limit x (settle b) n m (fine b so) e, left-settled b so)
+
+follows-short : (ds : List ℕ) (b : Bay) → Fine b → Follows b ds → length ds ≤ left b
+follows-short [] b f w = omega arith
+follows-short (d ∷ ds) b f w =
+    omega (arith, follows-short ds (next b d) (keeps b d f (w .0)) (w .1), falls b d f (w .0))
+
+-- no plan of a sound bay is longer than 672
+pub plan-short : (b : Bay) (ds : List ℕ) → Sound b → Follows (settle b) ds → length ds ≤ 672
+plan-short b ds so w = omega (arith, follows-short ds (settle b) (fine b so) w, left-settled b so)
+
+pub handlings-short : (b : Bay) → Sound b → (ms : List Move) → Handles b ms → relocations ms ≤ 672
+handlings-short b so ms h = plan-short b (dests ms) so (followed ms b h)

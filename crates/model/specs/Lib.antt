@@ -1,0 +1,6 @@
+pub mod Bays
+pub mod Targets
+pub mod Moves
+pub mod Search
+pub mod Bounds
+pub mod Claims
