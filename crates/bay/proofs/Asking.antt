@@ -3,15 +3,17 @@ use mathlib.Core.Path.{_≡_, refl, sym, ap, subst, _∙_}
 use mathlib.Core.Logic.{_⊎_, inl, inr, _≢_}
 use Prim.Native.Nat.{ℕ, zero, suc, _+_, _-_, _*_, _≤_, _<_}
 use native.Mathlib.Omega.{arith}
-use lib.ListN.{length, getD}
-use Rattle.std.proofs.shelf.Lists.{getD-past}
-use Rattle.model.specs.Bays.{noSlot, stackAt}
+use mathlib.Core.List.{List, _∷_, map}
+use lib.ListN.{length, getD, take, drop}
+use Rattle.std.specs.Iters.{counting}
+use Rattle.std.proofs.shelf.Lists.{getD-past, drop-more}
+use Rattle.model.specs.Bays.{Slot, noSlot, stackAt}
 use Rattle.bay.specs.declared.work.WorkBay.{WorkBay}
-use Rattle.bay.specs.Ask.{heightAt, slotIn}
+use Rattle.bay.specs.Ask.{heightAt, slotIn, callsAt}
 use Rattle.bay.specs.Flat.{slotBy}
 use Rattle.bay.specs.Shown.{shown}
 use Rattle.bay.proofs.Carrying.{standing}
-use Rattle.bay.proofs.Working.{row-slot, height-is}
+use Rattle.bay.proofs.Working.{row-slot, row-items, height-is}
 
 pub no-slot : (w : WorkBay) (s t : ℕ) → (t ≡ 0) ⊎ (heightAt (shown w) s < t) → slotIn (shown w) s t ≡ noSlot
 no-slot w s zero o = refl
@@ -32,3 +34,20 @@ slot-is w (suc i) (suc t) ne l =
     let h = height-is w (suc i) (p .0) (p .1) in
     let e : suc i - 1 ≡ i = omega arith in
     row-slot w i t noSlot (omega (arith, p .1)) (omega (arith, h, ap (λ z. getD (w .heights) z 0) e)) ∙ ap (slotBy (w .crates) (w .calls)) (omega arith)
+
+-- a row of call numbers is a part of the array
+calls-from : (cr ca : List ℕ) (p h : ℕ) → p + h ≤ length ca → take h (drop p ca) ≡ map (λ (x : Slot). x .call) (map (slotBy cr ca) (counting p h))
+calls-from cr ca p zero l = refl
+calls-from cr ca p (suc h) l =
+    ap (take (suc h)) (drop-more ca p 0 (omega arith)) ∙ ap (λ xs. getD ca p 0 ∷ xs) (calls-from cr ca (p + 1) h (omega arith))
+
+pub calls-row : (w : WorkBay) (s : ℕ) → 96 ≤ length (w .calls) → s ≢ 0 → s ≤ w .stacks
+    → take (8 * (s - 1) + getD (w .heights) (s - 1) 0 - 8 * (s - 1)) (drop (8 * (s - 1)) (w .calls)) ≡ callsAt (shown w) s
+calls-row w zero long ne l = absurd (ne refl)
+calls-row w (suc i) long ne l =
+    let e : suc i - 1 ≡ i = omega arith in
+    let h : 8 * i + getD (w .heights) i 0 - 8 * i ≡ getD (w .heights) i 0 = omega arith in
+    ap (λ z. take (8 * z + getD (w .heights) z 0 - 8 * z) (drop (8 * z) (w .calls))) e
+    ∙ ap (λ z. take z (drop (8 * i) (w .calls))) h
+    ∙ calls-from (w .crates) (w .calls) (8 * i) (getD (w .heights) i 0) (omega (arith, w .few, w .tall i))
+    ∙ ap (map (λ (x : Slot). x .call)) (sym (row-items w i (omega arith)))

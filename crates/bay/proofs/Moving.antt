@@ -109,22 +109,15 @@ nothing-told w e = (
 )
 
 -- settling, one retrieval at a time
-settle-at : (b : Bay) → Legal b retrieve → (settle b ≡ settle (moved b retrieve)) × (suc (crates (moved b retrieve)) ≡ crates b)
-settle-at b m =
-    let l = legal-retrieve b m in
-    let q : stackOf (target b) ≡ l .0 = ap stackOf (l .1) in
-    (settle-out b (l .0) (l .1) ∙ ap (λ z. settle (takenFrom b z)) (sym q), ap (λ z. suc (crates (takenFrom b z))) q ∙ out-fewer b (l .0) (l .1))
+module _ (w : WorkBay) (s : ℕ) (e : Some (s, 0) ≡ target (shown w)) where
+  pub settle-on : settle (shown w) ≡ settle (takenFrom (shown w) (suc (s - 1)))
+  settle-on = settle-out (shown w) s (sym e) ∙ ap (λ z. settle (takenFrom (shown w) z)) (sym (row-number w s 0 e))
 
-pub settle-goes : (b b′ : Bay) (c s : ℕ) → Made b retrieve b′ c s → (settle b ≡ settle b′) × (crates b′ < crates b)
-settle-goes b b′ c s m = let p = settle-at b (m .legal) in (p .0 ∙ ap settle (sym (m .after)), omega (arith, p .1, ap crates (m .after)))
+  pub settle-fewer : crates (takenFrom (shown w) (suc (s - 1))) < crates (shown w)
+  settle-fewer = omega (arith, out-fewer (shown w) s (sym e), ap (λ z. crates (takenFrom (shown w) z)) (row-number w s 0 e))
 
-still : (b : Bay) (o : Option (ℕ × ℕ)) → target b ≡ o → (Legal b retrieve → ⊥) → Still o
-still b None e f = tt
-still b (Some t) e f = on (t .0) (t .1) e
-  where
-    on : (s a : ℕ) → target b ≡ Some (s, a) → 0 < a
-    on s zero q = absurd (f (retrieve-legal b s q))
-    on s (suc a) q = omega arith
+pub settle-ends : (b : Bay) (s a : ℕ) → Some (s, a) ≡ target b → 0 < a → b ≡ settle b
+settle-ends b s a e p = sym (settle-still b (subst Still e p))
 
-pub settle-ends : (b b′ : Bay) → Left b retrieve b′ → b′ ≡ settle b
-settle-ends b b′ l = l .same ∙ sym (settle-still b (still b (target b) refl (l .illegal)))
+pub settle-none : (b : Bay) → None ≡ target b → b ≡ settle b
+settle-none b e = sym (settle-still b (subst Still e tt))

@@ -1,4 +1,5 @@
 -- What a bay answers: of a stack or a tier that is not there, 0.
+use mathlib.Core.List.{List, map}
 use Prim.Native.Nat.{ℕ, zero, suc}
 use mathlib.Core.Bool.{Bool, not, _&&_}
 use lib.Dec.{eqb, ltb}
@@ -20,3 +21,7 @@ opens b s d = not (eqb s d) && hasSpace (stackAt b d)
 -- the top crate of one stack may be carried to another
 abbrev pub carries : Bay → ℕ → ℕ → Bool
 carries b from to = ltb 0 (heightAt b from) && opens b from to
+
+-- the call numbers of a stack, bottom first
+abbrev pub callsAt : Bay → ℕ → List ℕ
+callsAt b s = map (λ (x : Slot). x .call) (stackAt b s .items)

@@ -12,3 +12,4 @@ pub mod Rounds
 pub mod Outcomes
 pub mod Honesty
 pub mod LookAhead
+pub mod Loops

@@ -8,9 +8,9 @@ use lib.ListN.{length}
 use Rattle.model.specs.Bays.{Bay, Sound}
 use Rattle.model.specs.Targets.{target}
 use Rattle.model.specs.Moves.{Move, Handles, dests, relocations, settle}
-use Rattle.model.specs.Search.{Follows, Among, ways, next, Outcome, fewest, atLeast, noWay, searched, searchedWithin, rounds, over, deep}
-use Rattle.model.specs.Claims.{Honest, Unlimited}
-use Rattle.model.proofs.Rounds.{Laws, Meant, rounds-meant, rounds-same, same-plan, rounds-spent, OnBudget, cut-below}
+use Rattle.model.specs.Search.{Follows, Among, ways, next, Outcome, fewest, atLeast, noWay, searched, searchedWithin, rounds, over, found, deep}
+use Rattle.model.specs.Claims.{Honest, Fewest, Says, UsedUp, Agrees, Unlimited, Promised}
+use Rattle.model.proofs.Rounds.{Laws, Right, Meant, round-right, rounds-meant, rounds-same, same-plan, rounds-spent, OnBudget, cut-below}
 use Rattle.model.proofs.Settling.{settled, settles}
 use Rattle.model.proofs.Handlings.{followed, handled, planned, Handling}
 use Rattle.model.proofs.Soundness.{sound-settles}
@@ -62,3 +62,52 @@ plan-short b ds so w = omega (arith, follows-short ds (settle b) (fine b so) w, 
 
 pub handlings-short : (b : Bay) → Sound b → (ms : List Move) → Handles b ms → relocations ms ≤ 672
 handlings-short b so ms h = plan-short b (dests ms) so (followed ms b h)
+
+-- what an outcome means for lists of destinations it says of legal handlings
+says : (b : Bay) (r : Outcome) → Meant (settle b) r → Says b r
+says b (fewest n ds) m =
+    let p = handled b ds (m .0) in
+    record {
+      moves = p .moves;
+      handles = p .handles;
+      along = p .along;
+      many = ap length (p .along) ∙ m .1;
+      least = λ ms h. m .2 (dests ms) (followed ms b h);
+      first = λ ms h e. m .3 (dests ms) (followed ms b h) (omega arith);
+    }
+says b (atLeast n) m = λ ms h. m (dests ms) (followed ms b h)
+says b noWay m = λ ms h. m (dests ms) (followed ms b h)
+
+used-up : (h : Bay → ℕ) (budget : ℕ) (r : Outcome) (tries : ℕ) → OnBudget h budget r tries → UsedUp budget r tries
+used-up h budget (fewest n ds) tries q = tt
+used-up h budget (atLeast n) tries q = q
+used-up h budget noWay tries q = tt
+
+agrees : (h : Bay → ℕ) → Honest h → (budget : ℕ) (b : Bay) → Sound b → (r : Outcome) → searched h budget b .0 ≡ r → Agrees b r
+agrees h o budget b so (fewest n ds) e = λ h′ o′ budget′ tries m es e′.
+    let p : Meant (settle b) (fewest n ds) = rw e at (meant h o budget b so) in
+    let q : Meant (settle b) (fewest m es) = subst (λ (z : Outcome × ℕ). Meant (settle b) (z .0)) e′ (meant h′ o′ budget′ b so) in
+    let same = same-plan (settle b) m n es ds q p in
+    (sym (q .1) ∙ ap length same ∙ p .1, same)
+agrees h o budget b so (atLeast n) e = tt
+agrees h o budget b so noWay e = tt
+
+-- all that is promised of a search
+pub promised : (h : Bay → ℕ) → Honest h → (budget : ℕ) (b : Bay) → Sound b → (r : Outcome × ℕ) → r ≡ searched h budget b → r .1 ≤ budget → Promised h budget b (r .0) (r .1)
+unfolding searched searchedWithin
+promised h o budget b so r e le =
+    record {
+      says = subst (λ (z : Outcome × ℕ). Says b (z .0)) (sym e) (says b (searched h budget b .0) (meant h o budget b so));
+      within = le;
+      used-up = subst (λ (z : Outcome × ℕ). UsedUp budget (z .0) (z .1)) (sym e) (used-up h budget _ _ (rounds-spent h budget 0 1345 (h (settle b)) (settle b) 0));
+      agrees = agrees h o budget b so (r .0) (sym (ap (λ (z : Outcome × ℕ). z .0) e));
+      unlimited = unlimited h o budget b so;
+      short = handlings-short b so;
+    }
+
+-- a plan that a round found is no longer than 672
+pub found-short : (h : Bay → ℕ) → Honest h → (budget limit x : ℕ) (b : Bay) → Sound b → (n m : ℕ) (ds : List ℕ)
+    → deep h budget limit (suc (limit + x)) 0 (settle b) false n ≡ found ds m → length ds ≤ 672
+found-short h o budget limit x b so n m ds e =
+    let r : Right budget limit (settle b) (Follows (settle b)) 0 (left (settle b) + 672) false (found ds m) = rw e at (round-right h Fine left 672 (laws h o) budget limit x (settle b) n (fine b so)) in
+    plan-short b ds so (r .0)

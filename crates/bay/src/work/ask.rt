@@ -3,7 +3,7 @@ ghost use Prim.Native.Nat.{_<_};
 ghost use lib.ListN.{length};
 ghost use Rattle.std.specs.Options.{Cases as BySome};
 ghost use Rattle.model.specs.Bays.{noSlot, stackAt};
-ghost use Rattle.bay.specs.Ask.{heightAt, slotIn, opens};
+ghost use Rattle.bay.specs.Ask.{heightAt, slotIn, callsAt, opens};
 ghost use Rattle.bay.specs.Flat.{slotBy};
 ghost use Rattle.bay.specs.Shown.{shown};
 use crate::work::WorkBay;
@@ -33,6 +33,17 @@ impl WorkBay {
             return 0;
         }
         self.heights[s as usize - 1]
+    }
+
+    // The call numbers of a stack, bottom first; zero is uncalled.
+    pub fn calls(&self, s: u8) -> &[u16]
+        ensures { λ r. ⌜ now r ≡ callsAt (shown (now (self .entry))) s ⌝ }
+    {
+        if s == 0 || s > self.stacks {
+            return &[];
+        }
+        let start = 8 * (s as usize - 1);
+        &self.calls[start..start + self.heights[s as usize - 1] as usize]
     }
 
     // Whether a crate of stack `from` may go to stack `to`.

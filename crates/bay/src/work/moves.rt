@@ -1,6 +1,7 @@
 ghost use mathlib.Core.Path.{_≡_};
 ghost use mathlib.Core.Bool.{cond};
 ghost use Rattle.model.specs.Bays.{relocated};
+ghost use Rattle.model.specs.Targets.{target};
 ghost use Rattle.model.specs.Moves.{settle, retrieve as retrieving, relocate as relocating};
 ghost use Rattle.bay.specs.Ask.{carries};
 ghost use Rattle.bay.specs.Move.{MoveTold};
@@ -49,10 +50,19 @@ impl WorkBay {
         Some((CrateNumber { number }, s))
     }
 
-    // Hands out targets while the target is on top.
-    pub fn settle(&mut self)
-        ensures { λ _. ⌜ shown (now (self .exit)) ≡ settle (shown (now (self .entry))) ⌝ }
+    // Hands out targets while the target is on top, and tells the target that is left, as the target finder does.
+    pub fn settle(&mut self) -> Option<(u8, u8)>
+        ensures after { λ _. ⌜ shown (now (self .exit)) ≡ settle (shown (now (self .entry))) ⌝ }
+        ensures value { λ r. ⌜ r ≡ target (shown (now (self .exit))) ⌝ }
     {
-        while let Some(_) = self.retrieve() {}
+        loop {
+            let Some((s, above)) = self.target() else {
+                return None;
+            };
+            if above > 0 {
+                return Some((s, above));
+            }
+            self.lift(s as usize - 1);
+        }
     }
 }

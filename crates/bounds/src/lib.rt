@@ -1,0 +1,3 @@
+pub mod blocking;
+pub mod bound;
+pub mod null;

@@ -1,0 +1,4 @@
+pub mod deepening;
+pub mod outcome;
+mod round;
+pub mod workspace;
