@@ -20,7 +20,8 @@ use Rattle.model.proofs.Handlings.{Relocates, legal-retrieve, legal-relocate, r
 use Rattle.model.proofs.Destinations.{Open, open-mem, opens as mem-open}
 use Rattle.bay.specs.declared.work.WorkBay.{WorkBay}
 use Rattle.bay.specs.Ask.{heightAt, opens}
-use Rattle.bay.specs.Move.{topCrate, Made, Left, MoveTold}
+use Rattle.bay.specs.Move.{Made, Left}
+use Rattle.model.specs.Carrying.{topCrate}
 use Rattle.bay.specs.Shown.{shown}
 use Rattle.bay.proofs.Carrying.{standing, spacious, Carriage, carriage}
 use Rattle.bay.proofs.Working.{stacks-is, height-is, work-sound}

@@ -4,13 +4,10 @@ use Prim.Native.Nat.{ℕ}
 use Rattle.std.specs.declared.option.Option.{Option}
 use Rattle.std.specs.declared.option.Option.the-variants.{Some, None}
 use Rattle.model.specs.declared.numbers.CrateNumber.{CrateNumber}
-use Rattle.model.specs.Bays.{Bay, stackAt, topSlot}
+use Rattle.model.specs.Bays.{Bay}
+use Rattle.model.specs.Carrying.{topCrate}
 use Rattle.model.specs.Targets.{target}
 use Rattle.model.specs.Moves.{Move, Legal, moved, stackOf}
-
--- the crate on top of the target's stack
-abbrev pub topCrate : Bay → ℕ
-topCrate b = topSlot (stackAt b (stackOf (target b)) .items) .crate
 
 -- the move was legal and was made: the crate that moved, and the stack that it left
 pub record Made (b : Bay) (m : Move) (b′ : Bay) (c s : ℕ) : Type 0 where

@@ -98,9 +98,9 @@ pub record Handling (b : Bay) (ds : List ℕ) : Type 0 where
   pub handles : Handles b moves
   pub along : dests moves ≡ ds
 
-ways-noStack : (b : Bay) (o : Option (ℕ × ℕ)) → target b ≡ o → waysAt b o ≡ None → target b ≡ None
-ways-noStack b None e p = e
-ways-noStack b (Some t) e p = let y : _≡_ {A = ℕ} 0 1 = cc in absurd (omega arith)
+pub ways-none : (b : Bay) (o : Option (ℕ × ℕ)) → target b ≡ o → waysAt b o ≡ None → target b ≡ None
+ways-none b None e p = e
+ways-none b (Some t) e p = let y : _≡_ {A = ℕ} 0 1 = cc in absurd (omega arith)
 
 among-on : (b : Bay) (d s a : ℕ) → target b ≡ Some (s, a) → 0 < a → Mem d (destinations b s) → Relocates b d
 among-on b d s zero e w m = absurd (omega arith)
@@ -124,7 +124,7 @@ unsettled b ds h =
 
 pub planned : (ds : List ℕ) (b : Bay) → Still (target b) → Follows b ds → Handling b ds
 unfolding ways next
-planned [] b w f = record { moves = []; handles = ways-noStack b (target b) refl f; along = refl }
+planned [] b w f = record { moves = []; handles = ways-none b (target b) refl f; along = refl }
 planned (d ∷ ds) b w f =
     let r = relocated b (stackOf (target b)) d in
     let h = unsettled r ds (planned ds (settle r) (settled r) (f .1)) in

@@ -13,3 +13,4 @@ pub mod Outcomes
 pub mod Honesty
 pub mod LookAhead
 pub mod Loops
+pub mod CarryingOut

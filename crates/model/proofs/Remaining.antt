@@ -32,8 +32,8 @@ above-small b s a e so =
     by [] k q t h = omega arith
     by (x ∷ xs) k q t h = omega (arith, above-le k x xs)
 
-left-noStack : (b : Bay) → target b ≡ None → left b ≡ 0
-left-noStack b e = rw e
+left-none : (b : Bay) → target b ≡ None → left b ≡ 0
+left-none b e = rw e
 
 left-some : (b : Bay) (s a : ℕ) → target b ≡ Some (s, a) → left b ≡ 7 * pred (crates b) + a
 left-some b s a e = rw e
@@ -43,7 +43,7 @@ left-under : (b : Bay) (c : ℕ) → suc (crates b) ≤ c → Sound b → left b
 left-under b c le so = by (seen b)
   where
     by : Seen b → left b ≤ 7 * pred c
-    by (nothing q _) = omega (arith, left-noStack b q)
+    by (nothing q _) = omega (arith, left-none b q)
     by (something k i a t q) = omega (arith, left-some b (suc i) a q, above-small b (suc i) a q so, some-crate b (suc i) a q)
 
 left-out : (b : Bay) (s : ℕ) → target b ≡ Some (s, 0) → Sound b → left (takenFrom b s) ≤ left b
@@ -84,6 +84,6 @@ pub left-small : (b : Bay) → Sound b → left b ≤ 672
 left-small b so = by (seen b)
   where
     by : Seen b → left b ≤ 672
-    by (nothing q _) = omega (arith, left-noStack b q)
+    by (nothing q _) = omega (arith, left-none b q)
     by (something k i a t q) =
         omega (arith, left-some b (suc i) a q, above-small b (suc i) a q so, some-crate b (suc i) a q, crates-le b (so .heights), so .few)

@@ -37,8 +37,8 @@ out-fewer b s e = some-fewer b s 0 e
 pub some-crate : (b : Bay) (s a : ℕ) → target b ≡ Some (s, a) → 0 < crates b
 some-crate b s a e = omega (arith, some-fewer b s a e)
 
-still-noStack : (b : Bay) → target b ≡ None → Still (target b)
-still-noStack b e = rw e tt
+still-none : (b : Bay) → target b ≡ None → Still (target b)
+still-none b e = rw e tt
 
 still-some : (b : Bay) (s a : ℕ) → target b ≡ Some (s, suc a) → Still (target b)
 still-some b s a e = rw e (omega arith)
@@ -47,7 +47,7 @@ still-empty : (b : Bay) → crates b ≤ 0 → Still (target b)
 still-empty b le = by (seen b)
   where
     by : Seen b → Still (target b)
-    by (nothing q _) = still-noStack b q
+    by (nothing q _) = still-none b q
     by (something k i a t q) = absurd (omega (arith, some-crate b (suc i) a q))
 
 settles-on : (n : ℕ) (b : Bay) (s a : ℕ) → target b ≡ Some (s, a)
@@ -59,7 +59,7 @@ settles-on n b s (suc a) e ih = stop (still-some b s a e)
 settles-at : (n : ℕ) (b : Bay) (o : Option (ℕ × ℕ)) → target b ≡ o
     → ((s : ℕ) → target b ≡ Some (s, 0) → Settles (takenFrom b s) (settleFor n (takenFrom b s)))
     → Settles b (settleAt (settleFor n) b o)
-settles-at n b None e ih = stop (still-noStack b e)
+settles-at n b None e ih = stop (still-none b e)
 settles-at n b (Some t) e ih = settles-on n b (t .0) (t .1) e (ih (t .0))
 
 settles-for : (n : ℕ) (b : Bay) → crates b ≤ n → Settles b (settleFor n b)
@@ -72,8 +72,8 @@ unfolding settle
 settles b = settles-for (crates b) b (omega arith)
 
 -- settling is determined
-noStack-some : (b : Bay) (t : ℕ × ℕ) → target b ≡ None → target b ≡ Some t → ⊥
-noStack-some b t p q = let z : _≡_ {A = ℕ} 0 1 = cc in omega arith
+none-some : (b : Bay) (t : ℕ × ℕ) → target b ≡ None → target b ≡ Some t → ⊥
+none-some b t p q = let z : _≡_ {A = ℕ} 0 1 = cc in omega arith
 
 same-target : (b : Bay) (s a s′ a′ : ℕ) → target b ≡ Some (s, a) → target b ≡ Some (s′, a′) → (s ≡ s′) × (a ≡ a′)
 same-target b s a s′ a′ p q =

@@ -4,3 +4,4 @@ pub mod Moves
 pub mod Search
 pub mod Bounds
 pub mod Claims
+pub mod Carrying

@@ -1,3 +1,4 @@
 pub mod Standing
 pub mod Trying
 pub mod Limits
+pub mod Carried

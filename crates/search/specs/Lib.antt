@@ -1,2 +1,3 @@
 pub mod Told
 pub mod Rounds
+pub mod Steps

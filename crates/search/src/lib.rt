@@ -1,4 +1,6 @@
+pub mod carrying;
 pub mod deepening;
+pub mod moves;
 pub mod outcome;
 mod round;
 pub mod workspace;
