@@ -20,6 +20,7 @@ still-by b f = by (target b) refl
     on : (s a : ℕ) → target b ≡ Some (s, a) → 0 < a
     on s zero q = absurd (f (retrieve-legal b s q))
     on s (suc a) q = omega arith
+
     by : (o : Option (ℕ × ℕ)) → target b ≡ o → Still o
     by None e = tt
     by (Some t) e = on (t .0) (t .1) e
@@ -53,15 +54,15 @@ carries-all (relocate d ∷ ms) b ds rest l e f w =
 pub carried-out : (b : Bay) (ds : List ℕ) (steps : List Step) (ms : List Move) (rest : List ℕ) → steps ≡ stepsOf b ms → LegalRun b ms → dests ms ++ rest ≡ ds → Stuck (afterAll b ms) rest
     → CarriedOut b ds steps
 carried-out b ds steps ms rest s l e f =
-    record
-      { moves = ms
-      ; rest = rest
-      ; shown = s
-      ; legal = l
-      ; along = e
-      ; stuck = f
-      ; handles = λ w. let p = carries-all ms b ds rest l e f w in (p .0, sym (append-nil (dests ms)) ∙ ap (λ r. dests ms ++ r) (sym (p .1)) ∙ e)
-      }
+    record {
+      moves = ms;
+      rest = rest;
+      shown = s;
+      legal = l;
+      along = e;
+      stuck = f;
+      handles = λ w. let p = carries-all ms b ds rest l e f w in (p .0, sym (append-nil (dests ms)) ∙ ap (λ r. dests ms ++ r) (sym (p .1)) ∙ e);
+    }
 
 -- one move more at the end
 pub legal-more : (b : Bay) (ms : List Move) (m : Move) → LegalRun b ms → Legal (afterAll b ms) m → LegalRun b (ms ++ m ∷ [])

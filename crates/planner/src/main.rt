@@ -6,14 +6,16 @@ use bounds::null::NullLowerBound;
 use search::carrying::moves;
 use search::deepening::search;
 use search::moves::Move;
+use search::outcome::Kind;
 use search::outcome::Outcome;
 use search::workspace::Workspace;
 use std::error::AnyError;
 use std::io;
-use text::fault::TextFaultDisplay;
+use std::io::Read;
+use text::fault::ReadFaultDisplay;
 use text::picture::Picture;
 use text::picture::PictureDisplay;
-use text::read::read_request;
+use text::read::read_requests;
 use text::request::BoundChoice;
 use text::request::Request;
 use text::words::MoveWords;
@@ -29,7 +31,6 @@ fn plan(request: &Request, space: &mut Workspace) -> Outcome {
     }
 }
 
-// Makes a move that is legal.
 fn make(bay: &mut WorkBay, made: Move) {
     match made {
         Move::Relocate { to, .. } => {
@@ -50,26 +51,44 @@ fn print_moves(rt: &LibcRuntime, bay: &mut WorkBay, list: &[Move]) -> io::Result
     Ok(())
 }
 
-fn run(rt: &LibcRuntime) -> Result<(), AnyError> {
-    let input = io::read_to_string(rt.alloc(), rt.stdin())?;
-    let request = match read_request(input.as_str()) {
-        Ok(request) => request,
-        Err(fault) => {
-            rt.eprintln(fault)?;
-            return Err("the request could not be read".into());
-        }
-    };
-    let mut space = Workspace::new(rt.alloc())?;
-    let outcome = plan(&request, &mut space);
-    let list = moves(rt.alloc(), &request.bay, space.destinations())?;
+fn answer(rt: &LibcRuntime, request: &Request, space: &mut Workspace) -> Result<(), AnyError> {
+    let outcome = plan(request, space);
     let mut bay = request.bay;
+    println!(rt, "The bay:")?;
     print!(rt, "{}", Picture { bay: &bay })?;
     println!(rt, "{}", OutcomeWords { outcome })?;
-    print_moves(rt, &mut bay, list.as_slice())?;
-    print!(rt, "{}", Picture { bay: &bay })?;
+    if let Kind::Fewest(_) = outcome.kind {
+        let list = moves(rt.alloc(), &request.bay, space.destinations())?;
+        print_moves(rt, &mut bay, list.as_slice())?;
+        println!(rt, "The bay after the last move:")?;
+        print!(rt, "{}", Picture { bay: &bay })?;
+    }
+    Ok(())
+}
+
+fn run(rt: &LibcRuntime) -> Result<(), AnyError> {
+    let mut bytes = Vec::new(rt.alloc());
+    rt.stdin().read_to_end(&mut bytes)?;
+    let Ok(text) = std::str::from_utf8(bytes.as_slice()) else {
+        return Err("the input is not UTF-8 text: write the bay as lines of words.".into());
+    };
+    let requests = match read_requests(rt.alloc(), text) {
+        Ok(requests) => requests,
+        Err(fault) => return Err(format!(rt.alloc(), "{fault}")?.into()),
+    };
+    let mut space = Workspace::new(rt.alloc())?;
+    for request in requests.iter() {
+        answer(rt, request, &mut space)?;
+    }
     Ok(())
 }
 
 fn main(rt: LibcRuntime) -> Result<(), AnyError> {
-    run(&rt)
+    match run(&rt) {
+        Ok(()) => Ok(()),
+        Err(fault) => {
+            eprintln!(rt, "planner: {fault}")?;
+            Err(fault)
+        }
+    }
 }

@@ -33,31 +33,31 @@ module _ (b : Bay) (ds : List ℕ) (steps : List Step) (n : ℕ) (c : Bay) (u : 
 
   pub handed : (c′ : Bay) (x s : ℕ) → Made c retrieve c′ x s → Underway b ds (steps ++ handedOut x s ∷ []) n c′
   handed c′ x s m =
-      record
-        { moves = u .moves ++ retrieve ∷ []
-        ; shown =
+      record {
+        moves = u .moves ++ retrieve ∷ [];
+        shown =
             ap (λ l. l ++ handedOut x s ∷ []) (u .shown)
             ∙ ap (λ z. stepsOf b (u .moves) ++ z ∷ []) (ap (λ v. handedOut v s) (m .crate) ∙ ap (handedOut (topCrate c)) (m .stack) ∙ here retrieve)
-            ∙ sym (steps-more b (u .moves) retrieve)
-        ; legal = legal-more b (u .moves) retrieve (u .legal) (subst (λ z. Legal z retrieve) (u .now-at) (m .legal))
-        ; along = dests-out (u .moves) ∙ u .along
-        ; now-at = m .after ∙ ap (λ z. moved z retrieve) (u .now-at) ∙ sym (after-more b (u .moves) retrieve)
-        ; within = u .within
-        }
+            ∙ sym (steps-more b (u .moves) retrieve);
+        legal = legal-more b (u .moves) retrieve (u .legal) (subst (λ z. Legal z retrieve) (u .now-at) (m .legal));
+        along = dests-out (u .moves) ∙ u .along;
+        now-at = m .after ∙ ap (λ z. moved z retrieve) (u .now-at) ∙ sym (after-more b (u .moves) retrieve);
+        within = u .within;
+      }
 
   pub went : (d : ℕ) (c′ : Bay) (x s : ℕ) → n < length ds → d ≡ getD ds n 0 → Made c (relocate d) c′ x s → Underway b ds (steps ++ carried x s d ∷ []) (n + 1) c′
   went d c′ x s l e m =
-      record
-        { moves = u .moves ++ relocate d ∷ []
-        ; shown =
+      record {
+        moves = u .moves ++ relocate d ∷ [];
+        shown =
             ap (λ l. l ++ carried x s d ∷ []) (u .shown)
             ∙ ap (λ z. stepsOf b (u .moves) ++ z ∷ []) (ap (λ v. carried v s d) (m .crate) ∙ ap (λ v. carried (topCrate c) v d) (m .stack) ∙ here (relocate d))
-            ∙ sym (steps-more b (u .moves) (relocate d))
-        ; legal = legal-more b (u .moves) (relocate d) (u .legal) (subst (λ z. Legal z (relocate d)) (u .now-at) (m .legal))
-        ; along = dests-to (u .moves) d ∙ ap (λ l. l ++ d ∷ []) (u .along) ∙ ap (λ z. take n ds ++ z ∷ []) e ∙ sym (take-more ds n 0 l)
-        ; now-at = m .after ∙ ap (λ z. moved z (relocate d)) (u .now-at) ∙ sym (after-more b (u .moves) (relocate d))
-        ; within = omega arith
-        }
+            ∙ sym (steps-more b (u .moves) (relocate d));
+        legal = legal-more b (u .moves) (relocate d) (u .legal) (subst (λ z. Legal z (relocate d)) (u .now-at) (m .legal));
+        along = dests-to (u .moves) d ∙ ap (λ l. l ++ d ∷ []) (u .along) ∙ ap (λ z. take n ds ++ z ∷ []) e ∙ sym (take-more ds n 0 l);
+        now-at = m .after ∙ ap (λ z. moved z (relocate d)) (u .now-at) ∙ sym (after-more b (u .moves) (relocate d));
+        within = omega arith;
+      }
 
   ended : (rest : List ℕ) → drop n ds ≡ rest → Stuck c rest → CarriedOut b ds steps
   ended rest e f =

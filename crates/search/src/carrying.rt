@@ -18,7 +18,10 @@ pub fn moves(heap: Global, bay: &WorkBay, destinations: &[u8]) -> Result<Vec<Mov
     let mut next = 0;
     loop {
         if let Some(out) = here.retrieve() {
-            made.push(Move::Retrieve { crate_number: out.0, stack: out.1 })?;
+            made.push(Move::Retrieve {
+                crate_number: out.0,
+                stack: out.1,
+            })?;
         } else {
             if next >= destinations.len() {
                 return Ok(made);
@@ -27,7 +30,11 @@ pub fn moves(heap: Global, bay: &WorkBay, destinations: &[u8]) -> Result<Vec<Mov
             let Some(gone) = here.relocate(to) else {
                 return Ok(made);
             };
-            made.push(Move::Relocate { crate_number: gone.0, from: gone.1, to })?;
+            made.push(Move::Relocate {
+                crate_number: gone.0,
+                from: gone.1,
+                to,
+            })?;
             next += 1;
         }
     }

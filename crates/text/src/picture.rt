@@ -40,7 +40,15 @@ impl fmt::Display for Tier<'_> as TierDisplay {
         let tier = self.tier;
         write!(f, "  tier {tier} |")?;
         for s in 0..self.bay.stacks() {
-            write!(f, "{}", Place { bay: self.bay, stack: s.saturating_add(1), tier })?;
+            write!(
+                f,
+                "{}",
+                Place {
+                    bay: self.bay,
+                    stack: s.saturating_add(1),
+                    tier
+                }
+            )?;
         }
         writeln!(f)
     }
@@ -54,11 +62,14 @@ struct Floor<'a> {
 
 impl fmt::Display for Floor<'_> as FloorDisplay {
     fn fmt<W: fmt::Write>(&self, f: &mut fmt::Formatter<W>) -> fmt::Result {
+        if self.bay.stacks() == 0 {
+            return writeln!(f, "  (no stacks)");
+        }
         write!(f, "         ")?;
         for s in 0..self.bay.stacks() {
             let stack = s.saturating_add(1);
             let clearance = self.bay.clearance(stack);
-            write!(f, " stack {stack:<2} clear {clearance} ")?;
+            write!(f, "  stack {stack:<2} clear {clearance}")?;
         }
         writeln!(f)
     }
@@ -77,7 +88,14 @@ pub impl fmt::Display for Picture<'_> as PictureDisplay {
     fn fmt<W: fmt::Write>(&self, f: &mut fmt::Formatter<W>) -> fmt::Result {
         let top = highest(self.bay);
         for down in 0..top {
-            write!(f, "{}", Tier { bay: self.bay, tier: top - down })?;
+            write!(
+                f,
+                "{}",
+                Tier {
+                    bay: self.bay,
+                    tier: top - down
+                }
+            )?;
         }
         write!(f, "{}", Floor { bay: self.bay })
     }

@@ -1,3 +1,9 @@
+ghost use Prim.Native.Nat.{_<_};
+ghost use Rattle.std.specs.Of.Vec.{vec-len};
+ghost use Rattle.std.specs.Vec.{made};
+use crate::fault::ReadFault;
+use crate::fault::ReadFaultFromRefused;
+use crate::fault::ReadFaultFromText;
 use crate::fault::Reason;
 use crate::fault::TextFault;
 use crate::request::BoundChoice;
@@ -5,6 +11,7 @@ use crate::request::Request;
 use bay::work::WorkBay;
 use model::numbers::CallNumber;
 use model::numbers::CrateNumber;
+use std::alloc::Global;
 
 // A crate word: a crate number, alone or with ':' and its call number.
 fn read_crate(word: &str) -> Result<(CrateNumber, CallNumber), Reason> {
@@ -49,12 +56,20 @@ fn read_stack(bay: &mut WorkBay, line: usize, text: &str) -> Result<(), TextFaul
     let mut words = 0;
     for (place, word) in text.split_whitespace().enumerate() {
         if let Err(reason) = read_stack_word(bay, place, word) {
-            return Err(TextFault { line, word: place.saturating_add(1), reason });
+            return Err(TextFault {
+                line,
+                word: place.saturating_add(1),
+                reason,
+            });
         }
         words = place;
     }
     if words == 0 {
-        return Err(TextFault { line, word: 2, reason: Reason::NoClearance });
+        return Err(TextFault {
+            line,
+            word: 2,
+            reason: Reason::NoClearance,
+        });
     }
     Ok(())
 }
@@ -86,6 +101,7 @@ fn read_budget(text: &str) -> Result<u32, (usize, Reason)> {
     }
 }
 
+// Reads one line into the request that is being put together.
 fn read_line(request: &mut Request, line: usize, text: &str) -> Result<(), TextFault> {
     let Some(first) = text.split_whitespace().next() else {
         return Ok(());
@@ -109,15 +125,33 @@ fn read_line(request: &mut Request, line: usize, text: &str) -> Result<(), TextF
             }
             Err((word, reason)) => Err(TextFault { line, word, reason }),
         },
-        _ => Err(TextFault { line, word: 1, reason: Reason::UnknownLine }),
+        _ => Err(TextFault {
+            line,
+            word: 1,
+            reason: Reason::UnknownLine,
+        }),
     }
 }
 
-// Reads a request, line by line. Without settings the bound is the blocking count and the budget 1,000,000.
-pub fn read_request(text: &str) -> Result<Request, TextFault> {
-    let mut request = Request { bay: WorkBay::new(), bound: BoundChoice::Blocking, budget: 1000000 };
+// Whether a line stands between two requests.
+fn separates(text: &str) -> bool {
+    matches!(text.split_whitespace().next(), Some("next"))
+}
+
+// Reads the requests of a text, line by line; a line that begins with 'next' begins another one.
+pub fn read_requests(heap: Global, text: &str) -> Result<Vec<Request>, ReadFault>
+    ensures { λ r. ⌜ made r (λ all. 0 < vec-len all) ⌝ }
+{
+    let mut all = Vec::new(heap);
+    let mut request = Request::new();
     for (i, line) in text.lines().enumerate() {
-        read_line(&mut request, i.saturating_add(1), line)?;
+        if separates(line) {
+            all.push(request)?;
+            request = Request::new();
+        } else {
+            read_line(&mut request, i.saturating_add(1), line)?;
+        }
     }
-    Ok(request)
+    all.push(request)?;
+    Ok(all)
 }

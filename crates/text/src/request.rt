@@ -1,3 +1,7 @@
+ghost use mathlib.Core.Path.{_≡_};
+ghost use mathlib.Core.List.{[]};
+ghost use Rattle.bay.specs.Shown.{shown};
+ghost use Rattle.text.specs.declared.request.BoundChoice.the-variants.{Blocking};
 use bay::work::WorkBay;
 
 // Which lower bound the planner is asked to use.
@@ -13,4 +17,19 @@ pub struct Request {
     pub bay: WorkBay,
     pub bound: BoundChoice,
     pub budget: u32,
+}
+
+impl Request {
+    // A bay without stacks, to be planned with the blocking count and at most 1,000,000 tries.
+    pub fn new() -> Request
+        ensures bay { λ r. ⌜ shown (r .bay) ≡ [] ⌝ }
+        ensures bound { λ r. ⌜ r .bound ≡ Blocking ⌝ }
+        ensures budget { λ r. ⌜ r .budget ≡ 1000000 ⌝ }
+    {
+        Request {
+            bay: WorkBay::new(),
+            bound: BoundChoice::Blocking,
+            budget: 1000000,
+        }
+    }
 }

@@ -12,11 +12,18 @@ pub struct MoveWords {
 pub impl fmt::Display for MoveWords as MoveWordsDisplay {
     fn fmt<W: fmt::Write>(&self, f: &mut fmt::Formatter<W>) -> fmt::Result {
         match self.made {
-            Move::Relocate { crate_number, from, to } => {
+            Move::Relocate {
+                crate_number,
+                from,
+                to,
+            } => {
                 let c = crate_number.number;
                 write!(f, "relocate crate {c} from stack {from} to stack {to}")
             }
-            Move::Retrieve { crate_number, stack } => {
+            Move::Retrieve {
+                crate_number,
+                stack,
+            } => {
                 let c = crate_number.number;
                 write!(f, "hand out crate {c} from stack {stack}")
             }
@@ -35,8 +42,14 @@ pub impl fmt::Display for OutcomeWords as OutcomeWordsDisplay {
         let tries = self.outcome.tries;
         match self.outcome.kind {
             Kind::Fewest(n) => write!(f, "fewest relocations: {n}, found after {tries} tries"),
-            Kind::AtLeast(n) => write!(f, "at least {n} relocations: the budget was used up after {tries} tries"),
-            Kind::NoWay => write!(f, "no way: no legal handling brings out every called crate, shown in {tries} tries"),
+            Kind::AtLeast(n) => write!(
+                f,
+                "at least {n} relocations: the budget was used up after {tries} tries"
+            ),
+            Kind::NoWay => write!(
+                f,
+                "no way: no legal handling brings out every called crate, shown in {tries} tries"
+            ),
         }
     }
 }
