@@ -1,13 +1,14 @@
 -- The crate at a tier of a stack.
 use mathlib.Core.Path.{_≡_, refl, sym, ap, subst, _∙_}
 use mathlib.Core.Logic.{_⊎_, inl, inr, _≢_}
-use Prim.Native.Nat.{ℕ, zero, suc, _+_, _-_, _*_, _≤_, _<_}
+use Prim.Native.Nat.{ℕ, zero, suc, _+_, _-_, _*_, _≤_, _<_, min}
 use native.Mathlib.Omega.{arith}
-use mathlib.Core.List.{List, _∷_, map}
+use mathlib.Core.List.{List, [], _∷_, map}
 use lib.ListN.{length, getD, take, drop}
 use Rattle.std.specs.Iters.{counting}
-use Rattle.std.proofs.shelf.Lists.{getD-past, drop-more}
+use Rattle.std.proofs.shelf.Lists.{getD-past, drop-more, at-drop-more, at-drop-all}
 use Rattle.model.specs.Bays.{Slot, noSlot, stackAt}
+use Rattle.model.specs.Targets.{lateness, lowest}
 use Rattle.bay.specs.declared.work.WorkBay.{WorkBay}
 use Rattle.bay.specs.Ask.{heightAt, slotIn, callsAt}
 use Rattle.bay.specs.Flat.{slotBy}
@@ -51,3 +52,22 @@ calls-row w (suc i) long ne l =
     ∙ ap (λ z. take z (drop (8 * i) (w .calls))) h
     ∙ calls-from (w .crates) (w .calls) (8 * i) (getD (w .heights) i 0) (omega (arith, w .few, w .tall i))
     ∙ ap (map (λ (x : Slot). x .call)) (sym (row-items w i (omega arith)))
+
+-- the earliest of some call numbers
+abbrev pub earliestOf : List ℕ → ℕ
+earliestOf [] = 65536
+earliestOf (k ∷ ks) = min (lateness k) (earliestOf ks)
+
+pub earliest-is : (xs : List Slot) → earliestOf (map (λ (x : Slot). x .call) xs) ≡ lowest xs
+earliest-is [] = refl
+earliest-is (x ∷ xs) = ap (min (lateness (x .call))) (earliest-is xs)
+
+pub earliest-more : (ks : List ℕ) (i low : ℕ) → i < length ks → earliestOf ks ≡ min low (earliestOf (drop i ks)) → earliestOf ks ≡ min (min (lateness (getD ks i 0)) low) (earliestOf (drop (i + 1) ks))
+earliest-more ks i low l e = let m = at-drop-more earliestOf ks i 0 l in omega arith
+
+pub earliest-all : (ks : List ℕ) (i low : ℕ) → length ks ≤ i → low ≤ 65536 → earliestOf ks ≡ min low (earliestOf (drop i ks)) → low ≡ earliestOf ks
+earliest-all ks i low l c e = let m = at-drop-all earliestOf ks i l in omega arith
+
+pub earliest-cap : (ks : List ℕ) → earliestOf ks ≤ 65536
+earliest-cap [] = omega arith
+earliest-cap (k ∷ ks) = omega (arith, earliest-cap ks)

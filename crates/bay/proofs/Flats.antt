@@ -92,22 +92,26 @@ module _ (n : ℕ) (cl he cr ca he′ cr′ ca′ : List ℕ) (i : ℕ) (l : i <
           stack-by (getD cl j 0) (getD cl j 0) (stackBy cl he′ cr′ ca′ j .items) (stackBy cl he cr ca j .items) refl (else j m q)
           ∙ sym (getD-set-other b i j (holding (getD b i noStack) xs) noStack q ∙ flat-at cl he cr ca n j m)
 
--- one crate less in row i
-pub flat-taken : (n : ℕ) (cl he cr ca : List ℕ) (i h : ℕ) → n ≤ length he → i < n → getD he i 0 ≡ suc h
-    → flat n cl (set he i h) cr ca ≡ takenFrom (flat n cl he cr ca) (suc i)
-unfolding takenFrom
-flat-taken n cl he cr ca i h long l e =
-    flat-changed n cl he cr ca (set he i h) cr ca i l (withoutTop (itemsAt (flat n cl he cr ca) i)) (here ∙ sym old)
+-- only the lower h crates of row i
+pub flat-cut : (n : ℕ) (cl he cr ca : List ℕ) (i h : ℕ) → n ≤ length he → i < n → h ≤ getD he i 0
+    → flat n cl (set he i h) cr ca ≡ changed (flat n cl he cr ca) (suc i) (take h (itemsAt (flat n cl he cr ca) i))
+flat-cut n cl he cr ca i h long l le =
+    flat-changed n cl he cr ca (set he i h) cr ca i l (take h (itemsAt (flat n cl he cr ca) i)) (here ∙ sym old)
     (λ j m q. ap (λ z. map (slotBy cr ca) (counting (8 * j) z)) (getD-set-other he i j h 0 q))
   where
     here : map (slotBy cr ca) (counting (8 * i) (getD (set he i h) i 0)) ≡ map (slotBy cr ca) (counting (8 * i) h)
     here = ap (λ z. map (slotBy cr ca) (counting (8 * i) z)) (getD-set-same he i h 0 (omega arith))
 
-    old : withoutTop (itemsAt (flat n cl he cr ca) i) ≡ map (slotBy cr ca) (counting (8 * i) h)
-    old =
-        ap withoutTop (items-at cl he cr ca n i l)
-        ∙ ap (λ z. take z (stackBy cl he cr ca i .items)) (omega (arith, row-length cl he cr ca i))
-        ∙ take-map-counting (slotBy cr ca) (8 * i) (getD he i 0) h (omega arith)
+    old : take h (itemsAt (flat n cl he cr ca) i) ≡ map (slotBy cr ca) (counting (8 * i) h)
+    old = ap (take h) (items-at cl he cr ca n i l) ∙ take-map-counting (slotBy cr ca) (8 * i) (getD he i 0) h le
+
+-- one crate less in row i
+pub flat-taken : (n : ℕ) (cl he cr ca : List ℕ) (i h : ℕ) → n ≤ length he → i < n → getD he i 0 ≡ suc h
+    → flat n cl (set he i h) cr ca ≡ takenFrom (flat n cl he cr ca) (suc i)
+unfolding takenFrom
+flat-taken n cl he cr ca i h long l e =
+    flat-cut n cl he cr ca i h long l (omega arith)
+    ∙ ap (λ m. changed (flat n cl he cr ca) (suc i) (take m (itemsAt (flat n cl he cr ca) i))) (omega (arith, height-at cl he cr ca n i l))
 
 same-slot : {c d k m : ℕ} → c ≡ d → k ≡ m → _≡_ {A = Slot} (record { crate = c; call = k }) (record { crate = d; call = m })
 same-slot p q = cc

@@ -10,7 +10,10 @@ pub mod Remaining
 pub mod Depth
 pub mod Rounds
 pub mod Outcomes
+pub mod Calls
 pub mod Honesty
+pub mod Leaving
 pub mod LookAhead
 pub mod Loops
 pub mod CarryingOut
+pub mod Figures

@@ -16,7 +16,7 @@ use Rattle.model.specs.Targets.{lateness, lowest, aboveOf, target, NoEarlier, 
 use Rattle.model.specs.Bounds.{elsewhere, weight, aheadAt, aheadFor, lookAhead, blockers, blocking, null}
 use Rattle.model.specs.Claims.{Honest}
 use Rattle.model.proofs.Stacks.{Topped, topped, topSlot-snoc, withoutTop-snoc}
-use Rattle.model.proofs.Targets.{target-is, Seen, seen, nothing, something}
+use Rattle.model.proofs.Targets.{target-is, is-target, above-under, Seen, seen, nothing, something}
 use Rattle.model.proofs.Changes.{topped-if, Taken, taken, Peeled, peeled, no-earlier-less, total-set, room-set, tally-snoc}
 use Rattle.model.proofs.Settling.{some-crate, some-fewer}
 use Rattle.model.proofs.Honesty.{peelFor, peelAt, peelOn, peeledAhead, ahead-none, ahead-some, slotsOf, ahead-honest, blocking-honest}
@@ -164,7 +164,7 @@ blocking-small : (b : Bay) → total (blockers 65536) b ≤ crates b
 blocking-small [] = omega arith
 blocking-small (s ∷ b) = omega (arith, blockers-small 65536 (s .items), blocking-small b)
 
-few-crates : (b : Bay) → Sound b → crates b ≤ 96
+pub few-crates : (b : Bay) → Sound b → crates b ≤ 96
 few-crates b so = omega (arith, crates-le b (so .heights), so .few)
 
 pub null-honest : Honest null
@@ -181,3 +181,26 @@ look-ahead-honest =
       small = λ b so. omega (arith, look-ahead-is b, peel-small (crates b) b, few-crates b so);
       honest = λ b so ms h. omega (arith, look-ahead-is b, ahead-honest b so ms h);
     }
+
+-- the rule one target at a time
+pub ahead-end : (c : Bay) → target c ≡ None → lookAhead c ≡ 0
+ahead-end c e = look-ahead-is c ∙ ahead-none c e
+
+pub ahead-one : (c : Bay) (s a : ℕ) → target c ≡ Some (s, a)
+    → lookAhead c ≡ tallyIn (weight c s) (drop (length (stackAt c s .items) - a) (stackAt c s .items)) + lookAhead (changed c s (take (length (stackAt c s .items) - suc a) (stackAt c s .items)))
+ahead-one c s a e =
+    let t = is-target c s a e in
+    let at = look-ahead-is c ∙ at-once a c (t .call) (t .place) (t .targeted) in
+    let c′ = changed c (suc (t .place)) (take (length (itemsAt c (t .place)) - suc a) (itemsAt c (t .place))) in
+    let whole = at ∙ ap (λ n. tallyIn (weight c (suc (t .place))) (drop (length (itemsAt c (t .place)) - a) (itemsAt c (t .place))) + n) (sym (look-ahead-is c′)) in
+    subst (λ z. lookAhead c ≡ tallyIn (weight c z) (drop (length (stackAt c z .items) - a) (stackAt c z .items)) + lookAhead (changed c z (take (length (stackAt c z .items) - suc a) (stackAt c z .items)))) (sym (t .number)) whole
+
+pub fewer-off : (c : Bay) (s a : ℕ) → target c ≡ Some (s, a) → crates (changed c s (take (length (stackAt c s .items) - suc a) (stackAt c s .items))) + suc a ≡ crates c
+fewer-off c s a e =
+    let t = is-target c s a e in
+    let i = t .place in
+    let xs = itemsAt c i in
+    let u : a < length xs = subst (λ z. a < length (stackAt c z .items)) (t .number) (above-under c s a e) in
+    let at : crates (changed c (suc i) (take (length xs - suc a) xs)) + suc a ≡ crates c =
+    omega (arith, total-set length c i (holding (getD c i noStack) (take (length xs - suc a) xs)) (t .targeted .inside), length-take (length xs - suc a) xs) in
+    subst (λ z. crates (changed c z (take (length (stackAt c z .items) - suc a) (stackAt c z .items))) + suc a ≡ crates c) (sym (t .number)) at

@@ -13,6 +13,7 @@ use Rattle.model.specs.Claims.{Honest, Fewest, Says, UsedUp, Agrees, Unlimited
 use Rattle.model.proofs.Rounds.{Laws, Right, Meant, round-right, rounds-meant, rounds-same, same-plan, rounds-spent, OnBudget, cut-below}
 use Rattle.model.proofs.Settling.{settled, settles}
 use Rattle.model.proofs.Handlings.{followed, handled, planned, Handling}
+use Rattle.model.proofs.Leaving.{brings-out}
 use Rattle.model.proofs.Soundness.{sound-settles}
 use Rattle.model.proofs.Remaining.{Fine, keeps, falls, left, left-small}
 
@@ -64,19 +65,20 @@ pub handlings-short : (b : Bay) → Sound b → (ms : List Move) → Handles b m
 handlings-short b so ms h = plan-short b (dests ms) so (followed ms b h)
 
 -- what an outcome means for lists of destinations it says of legal handlings
-says : (b : Bay) (r : Outcome) → Meant (settle b) r → Says b r
-says b (fewest n ds) m =
+says : (b : Bay) → Sound b → (r : Outcome) → Meant (settle b) r → Says b r
+says b so (fewest n ds) m =
     let p = handled b ds (m .0) in
     record {
       moves = p .moves;
       handles = p .handles;
+      brings-out = brings-out b (p .moves) so (p .handles);
       along = p .along;
       many = ap length (p .along) ∙ m .1;
       least = λ ms h. m .2 (dests ms) (followed ms b h);
       first = λ ms h e. m .3 (dests ms) (followed ms b h) (omega arith);
     }
-says b (atLeast n) m = λ ms h. m (dests ms) (followed ms b h)
-says b noWay m = λ ms h. m (dests ms) (followed ms b h)
+says b so (atLeast n) m = λ ms h. m (dests ms) (followed ms b h)
+says b so noWay m = λ ms h. m (dests ms) (followed ms b h)
 
 used-up : (h : Bay → ℕ) (budget : ℕ) (r : Outcome) (tries : ℕ) → OnBudget h budget r tries → UsedUp budget r tries
 used-up h budget (fewest n ds) tries q = tt
@@ -97,7 +99,7 @@ pub promised : (h : Bay → ℕ) → Honest h → (budget : ℕ) (b : Bay) → S
 unfolding searched searchedWithin
 promised h o budget b so r e le =
     record {
-      says = subst (λ (z : Outcome × ℕ). Says b (z .0)) (sym e) (says b (searched h budget b .0) (meant h o budget b so));
+      says = subst (λ (z : Outcome × ℕ). Says b (z .0)) (sym e) (says b so (searched h budget b .0) (meant h o budget b so));
       within = le;
       used-up = subst (λ (z : Outcome × ℕ). UsedUp budget (z .0) (z .1)) (sym e) (used-up h budget _ _ (rounds-spent h budget 0 1345 (h (settle b)) (settle b) 0));
       agrees = agrees h o budget b so (r .0) (sym (ap (λ (z : Outcome × ℕ). z .0) e));

@@ -4,16 +4,16 @@ use mathlib.Core.List.{List, [], _∷_, _++_}
 use mathlib.Core.Logic.{_⊎_, inl, inr, ⊎-elim, _≢_}
 use Prim.Native.Nat.{ℕ, zero, suc, _+_, _≤_, _<_}
 use native.Mathlib.Omega.{arith}
-use lib.ListN.{length, getD}
+use lib.ListN.{length, getD, take}
 use Rattle.std.proofs.shelf.Tests.{cases-eq, cases-order, eq-eqb, ne-eqb}
-use Rattle.std.proofs.shelf.Lists.{length-push, getD-push, getD-append-left, getD-past}
+use Rattle.std.proofs.shelf.Lists.{length-push, getD-push, getD-append-left, getD-past, getD-set-same, getD-set-other, length-set, length-take}
 use Rattle.std.specs.declared.option.Option.the-variants.{Some, None}
-use Rattle.model.specs.Bays.{Bay, Stack, Slot, noStack, itemsAt, takenFrom, relocated, crates, Sound, CrateId, total, tally, tallyIn, one, isCrate, isCall, outOfRange}
+use Rattle.model.specs.Bays.{Bay, Stack, Slot, noStack, itemsAt, holding, changed, takenFrom, relocated, crates, Sound, CrateId, total, tally, tallyIn, one, isCrate, isCall, outOfRange}
 use Rattle.model.specs.Targets.{target, Targeted, IsTarget}
 use Rattle.model.specs.Moves.{destinations}
 use Rattle.model.proofs.Stacks.{Topped}
 use Rattle.model.proofs.Targets.{target-is, is-target}
-use Rattle.model.proofs.Changes.{topped-if, Taken, taken, Put, put-tally, Carried, carried, target-carried, taken-tally, carried-tally, carried-crates}
+use Rattle.model.proofs.Changes.{topped-if, total-set, room-set, Taken, taken, Put, put-tally, Carried, carried, target-carried, taken-tally, carried-tally, carried-crates}
 use Rattle.model.proofs.Settling.{Settles, stop, step}
 use Rattle.model.proofs.Handlings.{Relocates}
 use Rattle.model.proofs.Destinations.{Open, opens}
@@ -148,3 +148,28 @@ relocates b d r =
     let ne : o .j ≢ w .shows .place = λ q. o .else (omega (arith, w .shows .number)) in
     let at : Relocation b (suc (w .shows .place)) (r .a) (suc (o .j)) = relocates-at b (w .shows .call) (w .shows .place) (o .j) (r .a) (w .shows .targeted) (o .inside) ne (o .space) (w .tops) in
     subst (λ x. Relocation b x (r .a) d) (sym (w .shows .number)) (subst (λ x. Relocation b (suc (w .shows .place)) (r .a) x) (sym ds) at)
+
+-- a part of one stack is cut off its top
+tally-part : (f : Slot → ℕ) (m : ℕ) (xs : List Slot) → tallyIn f (take m xs) ≤ tallyIn f xs
+tally-part f zero xs = omega arith
+tally-part f (suc m) [] = omega arith
+tally-part f (suc m) (x ∷ xs) = omega (arith, tally-part f m xs)
+
+pub sound-cut : (b : Bay) (i m : ℕ) → i < length b → Sound b → Sound (changed b (suc i) (take m (itemsAt b i)))
+sound-cut b i m l s =
+    record {
+      few = omega (arith, length-set b i (holding (getD b i noStack) (take m (itemsAt b i))), s .few);
+      heights = λ j. high j (cases-eq j i);
+      clearances = λ j. omega (arith, room-set b i (take m (itemsAt b i)) j, s .clearances j);
+      once = λ c. omega (arith, fewer (isCrate c), s .once c);
+      apart = λ k p. omega (arith, fewer (isCall k), s .apart k p);
+      ranged = omega (arith, fewer outOfRange, s .ranged);
+    }
+  where
+    fewer : (f : Slot → ℕ) → tally f (changed b (suc i) (take m (itemsAt b i))) ≤ tally f b
+    fewer f = omega (arith, total-set (tallyIn f) b i (holding (getD b i noStack) (take m (itemsAt b i))) l, tally-part f m (itemsAt b i))
+
+    high : (j : ℕ) → (j ≡ i) ⊎ (j ≡ i → ⊥) → length (itemsAt (changed b (suc i) (take m (itemsAt b i))) j) ≤ 8
+    high j (inl q) =
+        rw q (omega (arith, ap (λ (x : Stack). length (x .items)) (getD-set-same b i (holding (getD b i noStack) (take m (itemsAt b i))) noStack l), length-take m (itemsAt b i), s .heights i))
+    high j (inr q) = omega (arith, ap (λ (x : Stack). length (x .items)) (getD-set-other b i j (holding (getD b i noStack) (take m (itemsAt b i))) noStack q), s .heights j)

@@ -10,9 +10,9 @@ use lib.ListN.{length, getD}
 use Rattle.std.proofs.shelf.Tests.{lt-ltb, le-ltb, cases-lt, cases-order}
 use Rattle.std.specs.declared.option.Option.{Option}
 use Rattle.std.specs.declared.option.Option.the-variants.{Some, None}
-use Rattle.model.specs.Bays.{Bay, Stack, Slot, itemsAt}
+use Rattle.model.specs.Bays.{Bay, Stack, Slot, itemsAt, stackAt}
 use Rattle.model.specs.Targets.{lateness, lowest, aboveOf, Candidate, nobody, better, scanStack, scanBay, chosen, target, NoEarlier, Targeted, IsTarget, TargetMeans}
-use Rattle.model.proofs.Stacks.{lowest-le}
+use Rattle.model.proofs.Stacks.{lowest-le, above-le}
 use Rattle.model.proofs.Candidates.{Before, NoLater, takes, stays, compared, weaker, offer, scan-stack, Fair, fair-nobody, fair-better, no-later-before, before-no-later, no-later-trans, before-trans}
 
 -- how a scan from stack n on ends: the best so far stays, or a stack of the bay takes its place
@@ -195,3 +195,15 @@ means-at b (Some t) e s = is-target b (t .0) (t .1) e
 -- what the answer of the target finder says
 pub target-means : (b : Bay) → TargetMeans b (target b)
 target-means b = means-at b (target b) refl (seen b)
+
+-- fewer crates are above the target than stand in its stack
+above-under-in : (k : ℕ) (xs : List Slot) → lowest xs < 65536 → aboveOf k xs < length xs
+above-under-in k [] l = absurd (omega arith)
+above-under-in k (x ∷ xs) l = omega (arith, above-le k x xs)
+
+pub above-under : (b : Bay) (s a : ℕ) → target b ≡ Some (s, a) → a < length (stackAt b s .items)
+above-under b s a e =
+    let t = is-target b s a e in
+    let u : a < length (itemsAt b (t .place)) =
+    omega (arith, above-under-in (t .call) (itemsAt b (t .place)) (omega (arith, t .targeted .here, t .targeted .called)), t .targeted .above) in
+    subst (λ z. a < length (stackAt b z .items)) (sym (t .number)) u

@@ -4,6 +4,7 @@ use mathlib.Core.List.{List}
 use Prim.Native.Nat.{ℕ, _+_, _≤_}
 use Rattle.model.specs.Bays.{Bay, Sound}
 use Rattle.model.specs.Moves.{Move, Handles, dests, relocations, settle}
+use Rattle.model.specs.Leaving.{BringsOut}
 use Rattle.model.specs.Search.{Earlier, Outcome, fewest, atLeast, noWay, searched, searchedWithin}
 
 -- every legal handling of a sound bay has at least that many relocations, and the number is at most 672
@@ -11,10 +12,12 @@ pub record Honest (h : Bay → ℕ) : Type 0 where
   pub small : (b : Bay) → Sound b → h b ≤ 672
   pub honest : (b : Bay) → Sound b → (ms : List Move) → Handles b ms → h b ≤ relocations ms
 
--- following the destinations ds is a legal handling with n relocations; no legal handling has fewer, and none with n comes first
+-- Following the destinations ds is a legal handling with n relocations, which brings out every called crate, lowest call
+-- number first. No legal handling has fewer, and of those with n none comes first.
 pub record Fewest (b : Bay) (n : ℕ) (ds : List ℕ) : Type 0 where
   pub moves : List Move
   pub handles : Handles b moves
+  pub brings-out : BringsOut b moves
   pub along : dests moves ≡ ds
   pub many : relocations moves ≡ n
   pub least : (ms : List Move) → Handles b ms → n ≤ relocations ms

@@ -3,5 +3,7 @@ pub mod Targets
 pub mod Moves
 pub mod Search
 pub mod Bounds
+pub mod Leaving
 pub mod Claims
 pub mod Carrying
+pub mod Worked

@@ -1,6 +1,8 @@
 use bay::work::WorkBay;
 use bounds::blocking::BlockingCount;
 use bounds::blocking::BlockingLowerBound;
+use bounds::look_ahead::AheadLowerBound;
+use bounds::look_ahead::LookAhead;
 use bounds::null::NullBound;
 use bounds::null::NullLowerBound;
 use search::carrying::moves;
@@ -28,6 +30,7 @@ fn plan(request: &Request, space: &mut Workspace) -> Outcome {
     match request.bound {
         BoundChoice::Null => search(&request.bay, &NullBound, request.budget, space),
         BoundChoice::Blocking => search(&request.bay, &BlockingCount, request.budget, space),
+        BoundChoice::LookAhead => search(&request.bay, &LookAhead, request.budget, space),
     }
 }
 

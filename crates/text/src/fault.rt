@@ -56,8 +56,8 @@ fn sentence(reason: Reason) -> &'static str {
         Reason::Crate =>
             "expected a crate number from 1 to 4294967295, alone or with ':' and its call number",
         Reason::Call => "expected a call number from 1 to 65535 after the ':'",
-        Reason::NoBound => "expected 'null' or 'blocking' after 'bound'",
-        Reason::Bound => "expected 'null' or 'blocking'",
+        Reason::NoBound => "expected 'null', 'blocking' or 'lookahead' after 'bound'",
+        Reason::Bound => "expected 'null', 'blocking' or 'lookahead'",
         Reason::NoBudget => "expected the number of tries, 0 to 4294967295, after 'budget'",
         Reason::Budget => "expected the number of tries, 0 to 4294967295",
         Reason::Extra => "expected the end of the line: this line takes no more words",

@@ -90,6 +90,7 @@ fn read_bound(text: &str) -> Result<BoundChoice, (usize, Reason)> {
     match setting(text, Reason::NoBound)? {
         "null" => Ok(BoundChoice::Null),
         "blocking" => Ok(BoundChoice::Blocking),
+        "lookahead" => Ok(BoundChoice::LookAhead),
         _ => Err((2, Reason::Bound)),
     }
 }

@@ -1,7 +1,7 @@
 ghost use mathlib.Core.Path.{_≡_};
 ghost use mathlib.Core.List.{[]};
 ghost use Rattle.bay.specs.Shown.{shown};
-ghost use Rattle.text.specs.declared.request.BoundChoice.the-variants.{Blocking};
+ghost use Rattle.text.specs.declared.request.BoundChoice.the-variants.{LookAhead};
 use bay::work::WorkBay;
 
 // Which lower bound the planner is asked to use.
@@ -9,6 +9,7 @@ use bay::work::WorkBay;
 pub enum BoundChoice {
     Null,
     Blocking,
+    LookAhead,
 }
 
 // What the planner is asked: a bay with its calls, a bound and a budget of tries.
@@ -20,15 +21,15 @@ pub struct Request {
 }
 
 impl Request {
-    // A bay without stacks, to be planned with the blocking count and at most 1,000,000 tries.
+    // A bay without stacks, to be planned with the look-ahead and at most 1,000,000 tries.
     pub fn new() -> Request
         ensures bay { λ r. ⌜ shown (r .bay) ≡ [] ⌝ }
-        ensures bound { λ r. ⌜ r .bound ≡ Blocking ⌝ }
+        ensures bound { λ r. ⌜ r .bound ≡ LookAhead ⌝ }
         ensures budget { λ r. ⌜ r .budget ≡ 1000000 ⌝ }
     {
         Request {
             bay: WorkBay::new(),
-            bound: BoundChoice::Blocking,
+            bound: BoundChoice::LookAhead,
             budget: 1000000,
         }
     }

@@ -2,6 +2,8 @@ use bay::work::WorkBay;
 use bounds::blocking::BlockingCount;
 use bounds::blocking::BlockingLowerBound;
 use bounds::bound::LowerBound;
+use bounds::look_ahead::AheadLowerBound;
+use bounds::look_ahead::LookAhead;
 use bounds::null::NullBound;
 use bounds::null::NullLowerBound;
 use model::numbers::CallNumber;
@@ -57,47 +59,54 @@ fn expect<B: LowerBound>(
     }
 }
 
+// The same outcome under the null bound, the blocking count and the look-ahead, after so many tries each.
+fn expect_all(
+    rt: &LibcRuntime,
+    bay: &WorkBay,
+    kind: Kind,
+    tries: [u32; 3],
+    destinations: &[u8],
+) -> Result<(), Fail> {
+    expect(rt, bay, &NullBound, 1000000, kind, tries[0], destinations)?;
+    expect(
+        rt,
+        bay,
+        &BlockingCount,
+        1000000,
+        kind,
+        tries[1],
+        destinations,
+    )?;
+    expect(rt, bay, &LookAhead, 1000000, kind, tries[2], destinations)
+}
+
 #[test]
 fn no_stacks(rt: LibcRuntime) -> Result<(), Fail> {
-    let bay = WorkBay::new();
-    expect(&rt, &bay, &NullBound, 1000000, Kind::Fewest(0), 0, &[])?;
-    expect(&rt, &bay, &BlockingCount, 1000000, Kind::Fewest(0), 0, &[])
+    expect_all(&rt, &WorkBay::new(), Kind::Fewest(0), [0, 0, 0], &[])
 }
 
 #[test]
 fn in_order_already(rt: LibcRuntime) -> Result<(), Fail> {
     let bay = bay_of(2, &[&[2, 1]])?;
-    expect(&rt, &bay, &NullBound, 1000000, Kind::Fewest(0), 0, &[])?;
-    expect(&rt, &bay, &BlockingCount, 1000000, Kind::Fewest(0), 0, &[])
+    expect_all(&rt, &bay, Kind::Fewest(0), [0, 0, 0], &[])
 }
 
 #[test]
 fn one_stack_and_nowhere_to_go(rt: LibcRuntime) -> Result<(), Fail> {
     let bay = bay_of(2, &[&[1, 2]])?;
-    expect(&rt, &bay, &NullBound, 1000000, Kind::NoWay, 0, &[])?;
-    expect(&rt, &bay, &BlockingCount, 1000000, Kind::NoWay, 0, &[])
+    expect_all(&rt, &bay, Kind::NoWay, [0, 0, 0], &[])
 }
 
 #[test]
 fn one_blocker_one_free_stack(rt: LibcRuntime) -> Result<(), Fail> {
     let bay = bay_of(2, &[&[1, 2], &[]])?;
-    expect(&rt, &bay, &NullBound, 1000000, Kind::Fewest(1), 2, &[2])?;
-    expect(&rt, &bay, &BlockingCount, 1000000, Kind::Fewest(1), 1, &[2])
+    expect_all(&rt, &bay, Kind::Fewest(1), [2, 1, 1], &[2])
 }
 
 #[test]
 fn one_blocker_moved_twice(rt: LibcRuntime) -> Result<(), Fail> {
     let bay = bay_of(3, &[&[1, 3], &[2]])?;
-    expect(&rt, &bay, &NullBound, 1000000, Kind::Fewest(2), 5, &[2, 1])?;
-    expect(
-        &rt,
-        &bay,
-        &BlockingCount,
-        1000000,
-        Kind::Fewest(2),
-        3,
-        &[2, 1],
-    )
+    expect_all(&rt, &bay, Kind::Fewest(2), [5, 3, 2], &[2, 1])
 }
 
 #[test]
@@ -109,10 +118,16 @@ fn budgets_around_the_last_try(rt: LibcRuntime) -> Result<(), Fail> {
 }
 
 #[test]
+fn free_stack_without_clearance(rt: LibcRuntime) -> Result<(), Fail> {
+    let mut bay = bay_of(2, &[&[1, 2]])?;
+    check(bay.add_stack(0).is_ok())?;
+    expect_all(&rt, &bay, Kind::NoWay, [0, 0, 0], &[])
+}
+
+#[test]
 fn dead_end(rt: LibcRuntime) -> Result<(), Fail> {
     let bay = bay_of(3, &[&[1, 3, 2], &[5, 4]])?;
-    expect(&rt, &bay, &NullBound, 1000000, Kind::NoWay, 2, &[])?;
-    expect(&rt, &bay, &BlockingCount, 1000000, Kind::NoWay, 1, &[])
+    expect_all(&rt, &bay, Kind::NoWay, [2, 1, 2], &[])
 }
 
 #[test]

@@ -3,9 +3,11 @@ ghost use Prim.Native.Nat.{_<_};
 ghost use lib.ListN.{length};
 ghost use Rattle.std.specs.Options.{Cases as BySome};
 ghost use Rattle.model.specs.Bays.{noSlot, stackAt};
+ghost use Rattle.model.specs.Targets.{lowest};
 ghost use Rattle.bay.specs.Ask.{heightAt, slotIn, callsAt, opens};
 ghost use Rattle.bay.specs.Flat.{slotBy};
 ghost use Rattle.bay.specs.Shown.{shown};
+use crate::candidate::lateness_of;
 use crate::work::WorkBay;
 use model::numbers::CallNumber;
 use model::numbers::CrateNumber;
@@ -44,6 +46,17 @@ impl WorkBay {
         }
         let start = 8 * (s as usize - 1);
         &self.calls[start..start + self.heights[s as usize - 1] as usize]
+    }
+
+    // The lateness of the earliest crate of a stack; that of an uncalled crate if none is called.
+    pub fn earliest(&self, s: u8) -> u32
+        ensures { λ r. ⌜ r ≡ lowest (stackAt (shown (now (self .entry))) s .items) ⌝ }
+    {
+        let mut low = 65536;
+        for call in self.calls(s) {
+            low = lateness_of(*call).min(low);
+        }
+        low
     }
 
     // Whether a crate of stack `from` may go to stack `to`.

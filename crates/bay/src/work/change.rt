@@ -1,8 +1,9 @@
 ghost use mathlib.Core.Path.{_≡_};
 ghost use mathlib.Core.Logic.{_≢_};
-ghost use Prim.Native.Nat.{suc, _<_};
-ghost use lib.ListN.{getD};
-ghost use Rattle.model.specs.Bays.{itemsAt, topSlot, takenFrom, putOn, relocated};
+ghost use Prim.Native.Nat.{suc, _-_, _<_};
+ghost use lib.ListN.{getD, take};
+ghost use Rattle.model.specs.Bays.{itemsAt, stackAt, changed, topSlot, takenFrom, putOn, relocated};
+ghost use Rattle.bay.specs.Ask.{heightAt};
 ghost use Rattle.bay.specs.Build.{Newcomer};
 ghost use Rattle.bay.specs.Shown.{shown};
 use crate::work::WorkBay;
@@ -54,5 +55,16 @@ impl WorkBay {
         let (c, k) = self.top(from);
         self.lift(from);
         self.lay(to, c, k);
+    }
+
+    // Takes the top crates off a stack: so many, or all that stand there.
+    pub fn take_off(&mut self, s: u8, crates: u8)
+        ensures { λ _. ⌜ shown (now (self .exit)) ≡ changed (shown (now (self .entry))) s (take (heightAt (shown (now (self .entry))) s - crates) (stackAt (shown (now (self .entry))) s .items)) ⌝ }
+    {
+        if s == 0 || s > self.stacks {
+            return;
+        }
+        let row = s as usize - 1;
+        self.heights[row] = self.heights[row].saturating_sub(crates);
     }
 }
