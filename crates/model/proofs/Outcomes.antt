@@ -8,7 +8,8 @@ use lib.ListN.{length}
 use Rattle.model.specs.Bays.{Bay, Sound}
 use Rattle.model.specs.Targets.{target}
 use Rattle.model.specs.Moves.{Move, Handles, dests, relocations, settle}
-use Rattle.model.specs.Search.{Follows, Among, ways, next, Outcome, fewest, atLeast, noWay, searched, searchedWithin, rounds, over, found, deep}
+use Rattle.std.specs.declared.option.Option.the-variants.{None}
+use Rattle.model.specs.Search.{Follows, Among, ways, waysAt, next, fromWays, nextRound, Outcome, fewest, atLeast, noWay, searched, searchedWithin, rounds, over, found, deep}
 use Rattle.model.specs.Claims.{Honest, Fewest, Says, UsedUp, Agrees, Unlimited, Promised}
 use Rattle.model.proofs.Rounds.{Laws, Right, Meant, round-right, rounds-meant, rounds-same, same-plan, rounds-spent, OnBudget, cut-below}
 use Rattle.model.proofs.Settling.{settled, settles}
@@ -94,12 +95,20 @@ agrees h o budget b so (fewest n ds) e = λ h′ o′ budget′ tries m es e′.
 agrees h o budget b so (atLeast n) e = tt
 agrees h o budget b so noWay e = tt
 
+-- with no called crate left after settling nothing is tried
+searched-none : (h : Bay → ℕ) (budget : ℕ) (b : Bay) → target (settle b) ≡ None → searched h budget b ≡ (fewest 0 [], 0)
+unfolding searched searchedWithin ways
+searched-none h budget b e =
+    let c = settle b in
+    ap (λ o. nextRound (h c) (rounds h budget 0 1344 (suc (h c)) c) (fromWays h budget (h c) (deep h budget (h c) (h c + 0)) 0 c o false 0)) (ap (waysAt c) e)
+
 -- all that is promised of a search
 pub promised : (h : Bay → ℕ) → Honest h → (budget : ℕ) (b : Bay) → Sound b → (r : Outcome × ℕ) → r ≡ searched h budget b → r .1 ≤ budget → Promised h budget b (r .0) (r .1)
 unfolding searched searchedWithin
 promised h o budget b so r e le =
     record {
       says = subst (λ (z : Outcome × ℕ). Says b (z .0)) (sym e) (says b so (searched h budget b .0) (meant h o budget b so));
+      at-once = λ z. let q = e ∙ searched-none h budget b z in (ap (λ (x : Outcome × ℕ). x .0) q, ap (λ (x : Outcome × ℕ). x .1) q);
       within = le;
       used-up = subst (λ (z : Outcome × ℕ). UsedUp budget (z .0) (z .1)) (sym e) (used-up h budget _ _ (rounds-spent h budget 0 1345 (h (settle b)) (settle b) 0));
       agrees = agrees h o budget b so (r .0) (sym (ap (λ (z : Outcome × ℕ). z .0) e));

@@ -1,8 +1,10 @@
 -- What is promised of a bound and of an outcome, in terms of legal handlings.
 use mathlib.Core.Path.{_≡_}
-use mathlib.Core.List.{List}
+use mathlib.Core.List.{List, []}
 use Prim.Native.Nat.{ℕ, _+_, _≤_}
+use Rattle.std.specs.declared.option.Option.the-variants.{None}
 use Rattle.model.specs.Bays.{Bay, Sound}
+use Rattle.model.specs.Targets.{target}
 use Rattle.model.specs.Moves.{Move, Handles, dests, relocations, settle}
 use Rattle.model.specs.Leaving.{BringsOut}
 use Rattle.model.specs.Search.{Earlier, Outcome, fewest, atLeast, noWay, searched, searchedWithin}
@@ -49,6 +51,7 @@ Unlimited h budget b = (r x : ℕ) → searchedWithin h budget (1345 + r) x b �
 -- what is promised of an outcome and its tries
 pub record Promised (h : Bay → ℕ) (budget : ℕ) (b : Bay) (outcome : Outcome) (tries : ℕ) : Type 0 where
   pub says : Says b outcome
+  pub at-once : target (settle b) ≡ None → (outcome ≡ fewest 0 []) × (tries ≡ 0)
   pub within : tries ≤ budget
   pub used-up : UsedUp budget outcome tries
   pub agrees : Agrees b outcome
