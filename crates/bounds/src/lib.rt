@@ -1,3 +1,5 @@
+#![tactic(auto)]
+
 pub mod blocking;
 pub mod bound;
 pub mod look_ahead;

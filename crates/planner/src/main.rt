@@ -1,3 +1,5 @@
+#![tactic(auto)]
+
 use anyhow::anyhow;
 use bay::work::WorkBay;
 use bounds::blocking::BlockingCount;

@@ -1,3 +1,5 @@
+#![tactic(auto)]
+
 pub mod carrying;
 pub mod deepening;
 pub mod moves;

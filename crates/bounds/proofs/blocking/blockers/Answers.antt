@@ -10,7 +10,7 @@ loop-call-preserved c =
     let ks = c.args.calls.now in
     let i = c.loop-call.call-index in
     let low = c.loop-call.earliest in
-    let late = c.lateness-of-late.ensures in
+    let late = c.lateness_of-late.ensures in
     let l : i < length ks = c.loop-call-test.true in
     elim c.if-earliest-late.branch [
       | then-earliest-late w ↦

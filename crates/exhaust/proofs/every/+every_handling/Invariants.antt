@@ -1,4 +1,4 @@
 use Rattle.exhaust.proofs.every.+every_handling.Given as goal
 
-abbrev pub decreases-every-handling : goal.decreases-every-handling
-decreases-every-handling l = l.fuel
+abbrev pub decreases-every_handling : goal.decreases-every_handling
+decreases-every_handling l = l.fuel

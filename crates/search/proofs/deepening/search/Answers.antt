@@ -12,14 +12,14 @@ use Rattle.search.proofs.Limits.{searched-rounds, rounds-step, searched_done, li
 use Rattle.search.proofs.Trying.{estimate_small}
 use Rattle.search.proofs.deepening.search.Goals as goal
 
-pub returns-in-default : goal.returns-in-default
-returns-in-default g c =
+pub returns-in_default : goal.returns-in_default
+returns-in_default g c =
     let h = g.B.LowerBound.value c.args.bound.now in
     let ho = g.met.B.LowerBound.honest c.args.bound.now in
     let b = shown c.args.bay.now in
     let is : (fewest 0 (vec_items c.clear.new.self), 0) ≡ searched h c.args.budget b =
     ap (λ (l : List ℕ). (fewest 0 l, 0)) c.clear.ensures.items
-    ∙ searched_done h c.args.budget b (shown c.settle.new.self) c.settle.ensures.after c.in-default.ensures.value in
+    ∙ searched_done h c.args.budget b (shown c.settle.new.self) c.settle.ensures.after c.in_default.ensures.value in
     record { value = is; plan = refl; promise = promised h ho c.args.budget b (work_sound c.args.bay.now) (fewest 0 (vec_items c.clear.new.self), 0) is (omega arith) }
 
 pub rounds-init : goal.rounds-init
@@ -48,26 +48,26 @@ round-requires g c =
       left = c.rounds.invariant.3;
     }
 
-pub copy-destinations-requires : goal.copy-destinations-requires
-copy-destinations-requires g c =
+pub copy_destinations-requires : goal.copy_destinations-requires
+copy_destinations-requires g c =
     let h = g.B.LowerBound.value c.args.bound.now in
     let ho = g.met.B.LowerBound.honest c.args.bound.now in
     let fs = vec_items c.round.new.frames in
     let short : length (framed fs) ≤ 672 =
     plan_fits h ho c.args.budget c.rounds.limit (shown c.args.bay.now) (shown c.settle.new.self) (work_sound c.args.bay.now) c.settle.ensures.after
     c.rounds.tries c.in-Found.tries (framed fs) c.in-Found.ensures.meaning in
-    record { room = c.rounds.space.long; few = omega (arith, ap length c.as-slice.ensures.value, length-map fs (λ (f : Frame). f.destination)) }
+    record { room = c.rounds.space.long; few = omega (arith, ap length c.as_slice.ensures.value, length-map fs (λ (f : Frame). f.destination)) }
 
-pub overflow-cast-n : goal.overflow-cast-n
-overflow-cast-n g c =
+pub overflow_cast-n : goal.overflow_cast-n
+overflow_cast-n g c =
     let h = g.B.LowerBound.value c.args.bound.now in
     let ho = g.met.B.LowerBound.honest c.args.bound.now in
     let fs = vec_items c.round.new.frames in
-    let kept = c.copy-destinations.new.destinations in
+    let kept = c.copy_destinations.new.destinations in
     let short : length (framed fs) ≤ 672 =
     plan_fits h ho c.args.budget c.rounds.limit (shown c.args.bay.now) (shown c.settle.new.self) (work_sound c.args.bay.now) c.settle.ensures.after
     c.rounds.tries c.in-Found.tries (framed fs) c.in-Found.ensures.meaning in
-    let items : vec_items kept ≡ framed fs = c.copy-destinations.ensures.items ∙ ap framed c.as-slice.ensures.value in
+    let items : vec_items kept ≡ framed fs = c.copy_destinations.ensures.items ∙ ap framed c.as_slice.ensures.value in
     let n : c.len-n.result ≤ 672 = omega (arith, c.len-n.ensures, kept.ok.0, ap length items) in
     search rules
 
@@ -79,8 +79,8 @@ returns-in-Found g c =
     let v = shown c.settle.new.self in
     let f = 1344 + c.estimate-limit.result - c.rounds.limit in
     let fs = vec_items c.round.new.frames in
-    let kept = c.copy-destinations.new.destinations in
-    let items : vec_items kept ≡ framed fs = c.copy-destinations.ensures.items ∙ ap framed c.as-slice.ensures.value in
+    let kept = c.copy_destinations.new.destinations in
+    let items : vec_items kept ≡ framed fs = c.copy_destinations.ensures.items ∙ ap framed c.as_slice.ensures.value in
     let n : c.len-n.result ≡ length (framed fs) = omega (arith, c.len-n.ensures, kept.ok.0, ap length items) in
     let is : (fewest c.len-n.result (vec_items kept), c.in-Found.tries) ≡ searched h c.args.budget b =
     ap (λ (l : List ℕ). (fewest c.len-n.result l, c.in-Found.tries)) items

@@ -11,7 +11,7 @@ use Rattle.search.specs.declared.workspace.Frame.{Frame}
 use Rattle.search.proofs.Standing.{standing, Fit, Held, Kept, from_start, standing_skip, standing_spent, standing_cut, standing_found, standing_deeper, standing_back, standing_over, kept_push, kept_pop}
 use Rattle.search.proofs.Trying.{tried_is, estimate_small}
 use Rattle.search.proofs.round.round.Goals as goal
-use Rattle.search.proofs.round.round.Goals.{then-is-open+else-n-budget+then-limit-g, else-is-open}
+use Rattle.search.proofs.round.round.Goals.{then-is_open+else-n-budget+then-limit-g, else-is_open}
 
 pub returns-then-n-budget : goal.returns-then-n-budget
 returns-then-n-budget g c =
@@ -22,54 +22,54 @@ returns-then-n-budget g c =
           from_start h c.args.budget c.args.limit (vec_items c.clear.new.self) c.args.start.now c.args.source c.args.tries _ c.clear.ensures.items c.requires.aims
           (c.depth.invariant.0 ∙ c.destination.invariant.0
           ∙ standing_spent h c.args.budget c.args.limit (vec_items c.destination.frames) c.destination.here c.destination.s c.destination.d c.destination.cut
-          c.destination.n fit.low (omega (arith, c.destination-test.true, c.destination.invariant.3)) (sym c.if-is-open.ensures) c.if-n-budget.true);
+          c.destination.n fit.low (omega (arith, c.destination-test.true, c.destination.invariant.3)) (sym c.if-is_open.ensures) c.if-n-budget.true);
       within = fit.tries;
       capacity = c.destination.invariant.6 ∙ c.depth.invariant.3 ∙ c.clear.ensures.capacity;
     }
 
-pub overflow-add-g-then-is-open : goal.overflow-add-g-then-is-open
-overflow-add-g-then-is-open g c =
+pub overflow_add-g-then-is_open : goal.overflow_add-g-then-is_open
+overflow_add-g-then-is_open g c =
     let small = estimate_small (g.B.LowerBound.value c.args.bound.now) (g.met.B.LowerBound.honest c.args.bound.now) c.settle-target.new.self c.estimate.result c.estimate.ensures in
     let deep : c.len.result ≤ 1344 = omega (arith, c.len.ensures, c.destination.invariant.2, c.destination.invariant.1.depth, c.requires.low) in
     search rules
 
-pub returns-in-default : goal.returns-in-default
-returns-in-default g c =
+pub returns-in_default : goal.returns-in_default
+returns-in_default g c =
     let h = g.B.LowerBound.value c.args.bound.now in
     let fit = c.destination.invariant.1 in
-    let way : opens (shown c.destination.here) c.destination.s c.destination.d ≡ true = sym c.if-is-open.ensures in
+    let way : opens (shown c.destination.here) c.destination.s c.destination.d ≡ true = sym c.if-is_open.ensures in
     let after : shown c.settle-target.new.self ≡ next (shown c.destination.here) c.destination.d =
     tried_is c.destination.here c.carry.new.self c.settle-target.new.self c.destination.s c.destination.d c.carry.result fit.aims way
     c.carry.ensures.says c.carry.ensures.after c.settle-target.ensures.after in
     let le : length (vec_items c.destination.frames) + 1 + h (next (shown c.destination.here) c.destination.d) ≤ c.args.limit =
     omega (arith, c.if-limit-g.false, c.len.ensures, c.destination.invariant.2, c.estimate.ensures, ap h after) in
-    let items : vec_items c.push-reserved.new.self ≡ vec_items c.destination.frames ++ record { bay = c.destination.here; source = c.destination.s; destination = c.destination.d } ∷ [] =
-    c.push-reserved.ensures.items in
+    let items : vec_items c.push_reserved.new.self ≡ vec_items c.destination.frames ++ record { bay = c.destination.here; source = c.destination.s; destination = c.destination.d } ∷ [] =
+    c.push_reserved.ensures.items in
     record {
       meaning =
           from_start h c.args.budget c.args.limit (vec_items c.clear.new.self) c.args.start.now c.args.source c.args.tries _ c.clear.ensures.items c.requires.aims
           (c.depth.invariant.0 ∙ c.destination.invariant.0
           ∙ standing_found h c.args.budget c.args.limit (vec_items c.destination.frames) c.destination.here c.destination.s c.destination.d c.destination.cut
           c.destination.n fit.low (omega (arith, c.destination-test.true, c.destination.invariant.3)) way c.if-n-budget.false le
-          (c.in-default.ensures.value ∙ ap target after)
+          (c.in_default.ensures.value ∙ ap target after)
           ∙ ap (λ l. found (framed l) (c.destination.n + 1)) (sym items));
       within = omega (arith, fit.tries, c.if-n-budget.false);
-      capacity = c.push-reserved.ensures.capacity ∙ c.destination.invariant.6 ∙ c.depth.invariant.3 ∙ c.clear.ensures.capacity;
+      capacity = c.push_reserved.ensures.capacity ∙ c.destination.invariant.6 ∙ c.depth.invariant.3 ∙ c.clear.ensures.capacity;
     }
 
 pub depth-preserved-else-limit-g : goal.depth-preserved-else-limit-g
 depth-preserved-else-limit-g g c =
     let h = g.B.LowerBound.value c.args.bound.now in
     let fit = c.destination.invariant.1 in
-    let way : opens (shown c.destination.here) c.destination.s c.destination.d ≡ true = sym c.if-is-open.ensures in
+    let way : opens (shown c.destination.here) c.destination.s c.destination.d ≡ true = sym c.if-is_open.ensures in
     let after : shown c.settle-target.new.self ≡ next (shown c.destination.here) c.destination.d =
     tried_is c.destination.here c.carry.new.self c.settle-target.new.self c.destination.s c.destination.d c.carry.result fit.aims way
     c.carry.ensures.says c.carry.ensures.after c.settle-target.ensures.after in
     let le : length (vec_items c.destination.frames) + 1 + h (next (shown c.destination.here) c.destination.d) ≤ c.args.limit =
     omega (arith, c.if-limit-g.false, c.len.ensures, c.destination.invariant.2, c.estimate.ensures, ap h after) in
-    let items : vec_items c.push-reserved.new.self ≡ vec_items c.destination.frames ++ record { bay = c.destination.here; source = c.destination.s; destination = c.destination.d } ∷ [] =
-    c.push-reserved.ensures.items in
-    let long : length (vec_items c.push-reserved.new.self) ≡ length (vec_items c.destination.frames) + 1 = ap length items ∙ length_push (vec_items c.destination.frames) _ in
+    let items : vec_items c.push_reserved.new.self ≡ vec_items c.destination.frames ++ record { bay = c.destination.here; source = c.destination.s; destination = c.destination.d } ∷ [] =
+    c.push_reserved.ensures.items in
+    let long : length (vec_items c.push_reserved.new.self) ≡ length (vec_items c.destination.frames) + 1 = ap length items ∙ length_push (vec_items c.destination.frames) _ in
     let aims : Aims (shown c.settle-target.new.self) c.in-Some.next = record { above = c.in-Some.field-0-1; is = sym c.in-Some.ensures.value } in
     let few : c.destination.d ≤ 12 = omega (arith, c.destination-test.true, c.destination.invariant.3, (work_sound c.destination.here).few) in (
       c.depth.invariant.0 ∙ c.destination.invariant.0
@@ -85,8 +85,8 @@ depth-preserved-else-limit-g g c =
         high = omega arith;
         tries = omega (arith, fit.tries, c.if-n-budget.false);
       },
-      omega (arith, long, c.push-reserved.ensures.len, c.destination.invariant.2),
-      c.push-reserved.ensures.capacity ∙ c.destination.invariant.6 ∙ c.depth.invariant.3,
+      omega (arith, long, c.push_reserved.ensures.len, c.destination.invariant.2),
+      c.push_reserved.ensures.capacity ∙ c.destination.invariant.6 ∙ c.depth.invariant.3,
     )
 
 pub destination-preserved : goal.destination-preserved
@@ -96,9 +96,9 @@ destination-preserved g c =
     let fit = c.destination.invariant.1 in
     let dl : c.destination.d ≤ length (shown c.destination.here) = omega (arith, c.destination-test.true, c.destination.invariant.3) in
     let few : length (shown c.destination.here) ≤ 12 = (work_sound c.destination.here).few in
-    elim c.if-is-open.branch [
-      | then-is-open+else-n-budget+then-limit-g w ↦
-          let way = sym w.if-is-open.ensures in
+    elim c.if-is_open.branch [
+      | then-is_open+else-n-budget+then-limit-g w ↦
+          let way = sym w.if-is_open.ensures in
           let after : shown w.settle-target.new.self ≡ next (shown c.destination.here) c.destination.d =
           tried_is c.destination.here w.carry.new.self w.settle-target.new.self c.destination.s c.destination.d w.carry.result fit.aims way
           w.carry.ensures.says w.carry.ensures.after w.settle-target.ensures.after in (
@@ -106,7 +106,7 @@ destination-preserved g c =
                 ∙ standing_cut h c.args.budget c.args.limit (vec_items c.destination.frames) c.destination.here c.destination.s c.destination.d c.destination.cut
                 c.destination.n fit.low dl way w.if-n-budget.false
                 (omega (arith, w.if-limit-g.true, w.len.ensures, c.destination.invariant.2, w.estimate.ensures, ap h after))
-                ∙ ap (λ z. S (c.destination.d + 1) z (c.destination.n + 1)) (sym w.cut-is) ∙ ap (λ z. S (c.destination.d + 1) c.if-is-open.cut z) (sym w.n-is),
+                ∙ ap (λ z. S (c.destination.d + 1) z (c.destination.n + 1)) (sym w.cut-is) ∙ ap (λ z. S (c.destination.d + 1) c.if-is_open.cut z) (sym w.n-is),
             record { depth = fit.depth; kept = fit.kept; aims = fit.aims; low = omega arith; high = omega arith; tries = omega (arith, fit.tries, w.if-n-budget.false, w.n-is) },
             c.destination.invariant.2,
             c.destination.invariant.3,
@@ -114,11 +114,11 @@ destination-preserved g c =
             c.destination.invariant.5,
             c.destination.invariant.6,
           )
-      | else-is-open w ↦ (
+      | else-is_open w ↦ (
         c.destination.invariant.0
             ∙ standing_skip h c.args.budget c.args.limit (vec_items c.destination.frames) c.destination.here c.destination.s c.destination.d c.destination.cut
-            c.destination.n fit.low dl (sym w.if-is-open.ensures)
-            ∙ ap (λ z. S (c.destination.d + 1) z c.destination.n) (sym w.cut-is) ∙ ap (λ z. S (c.destination.d + 1) c.if-is-open.cut z) (sym w.n-is),
+            c.destination.n fit.low dl (sym w.if-is_open.ensures)
+            ∙ ap (λ z. S (c.destination.d + 1) z c.destination.n) (sym w.cut-is) ∙ ap (λ z. S (c.destination.d + 1) c.if-is_open.cut z) (sym w.n-is),
         record { depth = fit.depth; kept = fit.kept; aims = fit.aims; low = omega arith; high = omega arith; tries = omega (arith, fit.tries, w.n-is) },
         c.destination.invariant.2,
         c.destination.invariant.3,
@@ -128,11 +128,11 @@ destination-preserved g c =
       )
     ]
 
-pub returns-in-default-pop : goal.returns-in-default-pop
-returns-in-default-pop g c =
+pub returns-in_default-pop : goal.returns-in_default-pop
+returns-in_default-pop g c =
     let h = g.B.LowerBound.value c.args.bound.now in
     let fit = c.destination.invariant.1 in
-    let empty : vec_items c.destination.frames ≡ [] = nil_from_length (vec_items c.destination.frames) (omega (arith, c.destination.invariant.2, c.in-default-pop.ensures.cases.0)) in
+    let empty : vec_items c.destination.frames ≡ [] = nil_from_length (vec_items c.destination.frames) (omega (arith, c.destination.invariant.2, c.in_default-pop.ensures.cases.0)) in
     record {
       meaning =
           from_start h c.args.budget c.args.limit (vec_items c.clear.new.self) c.args.start.now c.args.source c.args.tries _ c.clear.ensures.items c.requires.aims
@@ -144,8 +144,8 @@ returns-in-default-pop g c =
       capacity = c.pop.ensures.capacity ∙ c.destination.invariant.6 ∙ c.depth.invariant.3 ∙ c.clear.ensures.capacity;
     }
 
-pub overflow-add-d-in-depth : goal.overflow-add-d-in-depth
-overflow-add-d-in-depth g c =
+pub overflow_add-d-in-depth : goal.overflow_add-d-in-depth
+overflow_add-d-in-depth g c =
     let kept : Kept (vec_items c.pop.new.self ++ c.in-Some-pop.frame ∷ []) = subst Kept c.in-Some-pop.ensures.items c.destination.invariant.1.kept in
     let high : c.in-Some-pop.frame.destination ≤ 12 = (kept_pop (vec_items c.pop.new.self) c.in-Some-pop.frame kept).1.high in
     search rules

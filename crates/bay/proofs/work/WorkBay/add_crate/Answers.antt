@@ -5,7 +5,7 @@ use Rattle.bay.proofs.work.WorkBay.add_crate.Goals as goal
 pub lay-requires : goal.lay-requires
 lay-requires c =
     let w = c.args.self.now in
-    let f = free w c.args.s c.args.c.number c.args.k.number c.in-default.ensures in
+    let f = free w c.args.s c.args.c.number c.args.k.number c.in_default.ensures in
     let p = place_row w c.args.s c.args.c.number c.args.k.number f in
     record {
       inside = omega (arith, p.0, p.1);

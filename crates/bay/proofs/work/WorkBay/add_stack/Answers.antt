@@ -10,15 +10,16 @@ pub returns-then-clearance-gt8 : goal.returns-then-clearance-gt8
 returns-then-clearance-gt8 c =
     record { says = stack_high c.args.self.now c.args.clearance c.if-self-ge12.false c.if-clearance-gt8.true; after = refl }
 
-pub invariant-of-self : goal.invariant-of-self
-invariant-of-self c =
-    let so = stack_keeps c.args.self.now c.args.clearance (omega arith) (omega arith) c.if-self-ge12.false c.if-clearance-gt8.false in (
-      omega arith,
-      (
-        eight_set c.args.self.now.clearances c.args.self.now.stacks c.args.clearance c.args.self.now.cleared c.if-clearance-gt8.false,
-        (eight_set c.args.self.now.heights c.args.self.now.stacks 0 c.args.self.now.tall (omega arith), (so.once, (so.apart, (so.ranged, tt)))),
-      ),
-    )
+pub invariant_of-self : goal.invariant_of-self
+invariant_of-self c =
+    let so = stack_keeps c.args.self.now c.args.clearance (omega arith) (omega arith) c.if-self-ge12.false c.if-clearance-gt8.false in record {
+      few = omega arith;
+      cleared = eight_set c.args.self.now.clearances c.args.self.now.stacks c.args.clearance c.args.self.now.cleared c.if-clearance-gt8.false;
+      tall = eight_set c.args.self.now.heights c.args.self.now.stacks 0 c.args.self.now.tall (omega arith);
+      once = so.once;
+      apart = so.apart;
+      ranged = so.ranged;
+    }
 
 pub returns : goal.returns
 returns c =

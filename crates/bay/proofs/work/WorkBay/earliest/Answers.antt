@@ -12,7 +12,7 @@ loop-call-preserved c =
     let ks = c.calls-call-items.result.now in
     let i = c.loop-call.call-index in
     let m = earliest_more ks i c.loop-call.low c.loop-call-test.true c.loop-call.invariant.0 in
-    let late = c.lateness-of.ensures in
+    let late = c.lateness_of.ensures in
     let low = c.min-low.ensures in
     (m ∙ ap (λ z. min z (earliest_of (drop (i + 1) ks))) (ap (λ z. min z c.loop-call.low) (sym late) ∙ sym low), omega (arith, low, c.loop-call.invariant.1))
 

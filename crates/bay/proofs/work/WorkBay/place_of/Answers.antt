@@ -11,8 +11,8 @@ returns-then-tier-eq0 c =
       | then-tier-eq0-via-else-tier-eq0+then-tier-height w ↦ none (inr (omega (arith, w.if-tier-height.true, w.height.ensures)))
     ]
 
-pub overflow-sub-row : goal.overflow-sub-row
-overflow-sub-row c = (slot_there c.args.self.now c.args.s c.args.tier c.if-tier-eq0.false (omega (arith, c.if-tier-height.false, c.height.ensures))).0
+pub overflow_sub-row : goal.overflow_sub-row
+overflow_sub-row c = (slot_there c.args.self.now c.args.s c.args.tier c.if-tier-eq0.false (omega (arith, c.if-tier-height.false, c.height.ensures))).0
 
 pub returns : goal.returns
 returns c =

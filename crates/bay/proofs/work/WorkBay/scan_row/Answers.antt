@@ -16,7 +16,7 @@ loop-t-preserved c =
     c.loop-t.invariant
     ∙ row_step w c.args.row c.loop-t.t (best_shown c.loop-t.best) c.requires c.loop-t-test.true
     ∙ ap (λ l. scan_stack (better (best_shown c.loop-t.best) (record { late = l; above = get_or w.heights c.args.row 0 - 1 - c.loop-t.t; stack = c.args.row + 1 })) (suc c.args.row) rest)
-    (sym c.lateness-of-late.ensures)
+    (sym c.lateness_of-late.ensures)
     ∙ ap (λ b. scan_stack b (suc c.args.row) rest) (sym c.better-best.ensures)
 
 pub returns : goal.returns

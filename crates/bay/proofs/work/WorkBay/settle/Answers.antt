@@ -10,10 +10,10 @@ use Rattle.bay.proofs.work.WorkBay.settle.Goals as goal
 pub on_top : (s a : ℕ) (o : Option (ℕ × ℕ)) → Some (s, a) ≡ o → a ≡ 0 → Some (s, 0) ≡ o
 on_top s a o e z = ap (λ (x : ℕ). Some (s, x)) (sym z) ∙ e
 
-pub returns-in-default : goal.returns-in-default
-returns-in-default c =
+pub returns-in_default : goal.returns-in_default
+returns-in_default c =
     let b = shown c.loop-s.self in
-    record { after = settle_none b c.in-default.ensures.value ∙ sym c.loop-s.invariant; value = c.in-default.ensures.value }
+    record { after = settle_none b c.in_default.ensures.value ∙ sym c.loop-s.invariant; value = c.in_default.ensures.value }
 
 pub returns-then-above-gt0 : goal.returns-then-above-gt0
 returns-then-above-gt0 c =

@@ -11,17 +11,18 @@ returns-then-s-eq0 c =
       | then-s-eq0-via-else-s-eq0+then-s-self v ↦ cut_absent c.args.self.now c.args.s _ (inr v.if-s-self.true)
     ]
 
-pub invariant-of-self : goal.invariant-of-self
-invariant-of-self c =
+pub invariant_of-self : goal.invariant_of-self
+invariant_of-self c =
     let w = c.args.self.now in
-    let so = cut_sound w c.args.crates (omega arith) c.args.s c.saturating-sub.result c.if-s-eq0.false c.if-s-self.false c.saturating-sub.ensures in (
-      w.few,
-      (
-        w.cleared,
-        (eight_set w.heights _ c.saturating-sub.result w.tall (omega (arith, c.saturating-sub.ensures, w.tall (c.args.s - 1))), (so.once, (so.apart, (so.ranged, tt)))),
-      ),
-    )
+    let so = cut_sound w c.args.crates (omega arith) c.args.s c.saturating_sub.result c.if-s-eq0.false c.if-s-self.false c.saturating_sub.ensures in record {
+      few = w.few;
+      cleared = w.cleared;
+      tall = eight_set w.heights _ c.saturating_sub.result w.tall (omega (arith, c.saturating_sub.ensures, w.tall (c.args.s - 1)));
+      once = so.once;
+      apart = so.apart;
+      ranged = so.ranged;
+    }
 
 pub returns : goal.returns
 returns c =
-    cut_is c.args.self.now c.args.crates (omega arith) c.args.s c.saturating-sub.result c.if-s-eq0.false c.if-s-self.false c.saturating-sub.ensures
+    cut_is c.args.self.now c.args.crates (omega arith) c.args.s c.saturating_sub.result c.if-s-eq0.false c.if-s-self.false c.saturating_sub.ensures

@@ -14,7 +14,7 @@ loop-row-preserved c =
     let w = c.args.self.now in
     c.loop-row.invariant
     ∙ bay_step w c.loop-row.row (best_shown c.loop-row.best) c.loop-row-test.true
-    ∙ ap (λ b. scan_bay b (suc (c.loop-row.row + 1)) (drop (c.loop-row.row + 1) (shown w))) (sym c.scan-row-best.ensures)
+    ∙ ap (λ b. scan_bay b (suc (c.loop-row.row + 1)) (drop (c.loop-row.row + 1) (shown w))) (sym c.scan_row-best.ensures)
 
 pub returns-then-best-lt65536 : goal.returns-then-best-lt65536
 returns-then-best-lt65536 c =

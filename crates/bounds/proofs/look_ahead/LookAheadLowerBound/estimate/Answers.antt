@@ -12,8 +12,8 @@ use Rattle.bounds.proofs.look_ahead.LookAheadLowerBound.estimate.Goals as goal
 pub loop-s-init : goal.loop-s-init
 loop-s-init c = (omega arith, omega (arith, few_crates (shown c.args.bay.now) (work_sound c.args.bay.now)))
 
-pub overflow-sub-start : goal.overflow-sub-start
-overflow-sub-start c =
+pub overflow_sub-start : goal.overflow_sub-start
+overflow_sub-start c =
     let w = c.loop-s.copy in
     let high = ap length c.calls-calls.ensures ∙ length-map (stack_at (shown w) c.in-Some.s).items (λ (x : Slot). x.call) in
     omega (arith, high, covers w c.in-Some.s c.in-Some.above c.in-Some.ensures.value)
@@ -27,21 +27,21 @@ weigh-count-requires c =
       few_above w c.in-Some.s c.in-Some.above c.in-Some.ensures.value,
     )
 
-pub overflow-add-above : goal.overflow-add-above
-overflow-add-above c = let few = few_above c.loop-s.copy c.in-Some.s c.in-Some.above c.in-Some.ensures.value in search rules
+pub overflow_add-above : goal.overflow_add-above
+overflow_add-above c = let few = few_above c.loop-s.copy c.in-Some.s c.in-Some.above c.in-Some.ensures.value in search rules
 
 pub loop-s-smaller : goal.loop-s-smaller
-loop-s-smaller c = omega (arith, fewer c.loop-s.copy c.in-Some.s c.in-Some.above c.in-Some.ensures.value (shown c.take-off.new.self) c.take-off.ensures)
+loop-s-smaller c = omega (arith, fewer c.loop-s.copy c.in-Some.s c.in-Some.above c.in-Some.ensures.value (shown c.take_off.new.self) c.take_off.ensures)
 
 pub loop-s-preserved : goal.loop-s-preserved
 loop-s-preserved c =
     let w = c.loop-s.copy in
     let e = c.in-Some.ensures.value in
     let part = covered w c.in-Some.s c.in-Some.above e c.calls-calls.result.now c.calls-calls.ensures in
-    let more = looked w c.in-Some.s c.in-Some.above e c.weigh-count.result (shown c.take-off.new.self) _ part c.weigh-count.ensures.value c.take-off.ensures in
-    let less = fewer w c.in-Some.s c.in-Some.above e (shown c.take-off.new.self) c.take-off.ensures in
+    let more = looked w c.in-Some.s c.in-Some.above e c.weigh-count.result (shown c.take_off.new.self) _ part c.weigh-count.ensures.value c.take_off.ensures in
+    let less = fewer w c.in-Some.s c.in-Some.above e (shown c.take_off.new.self) c.take_off.ensures in
     let long = covered_length w c.in-Some.s c.in-Some.above e c.calls-calls.result.now c.calls-calls.ensures in
     (omega (arith, c.loop-s.invariant.0, more), omega (arith, c.loop-s.invariant.1, less, long, c.weigh-count.ensures.small))
 
 pub returns : goal.returns
-returns c = let none = looked_all (shown c.loop-s.copy) c.in-default.ensures.value in omega (arith, c.loop-s.invariant.0)
+returns c = let none = looked_all (shown c.loop-s.copy) c.in_default.ensures.value in omega (arith, c.loop-s.invariant.0)

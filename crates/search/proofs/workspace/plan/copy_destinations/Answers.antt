@@ -9,12 +9,12 @@ loop-frame-preserved c =
     let fs = c.args.frames.now in
     let i = c.loop-frame.frame-index in
     let x = c.frame-item.result in (
-      c.push-reserved.ensures.items
+      c.push_reserved.ensures.items
           ∙ ap (λ l. l ++ x.destination ∷ []) c.loop-frame.invariant.0
           ∙ ap (λ z. framed (take i fs) ++ z ∷ []) (ap (λ (f : Frame). f.destination) c.frame-item.is)
           ∙ sym (map_more (λ (f : Frame). f.destination) fs i x c.loop-frame-test.true),
-      omega (arith, c.push-reserved.ensures.len, c.loop-frame.invariant.1),
-      c.push-reserved.ensures.capacity ∙ c.loop-frame.invariant.2,
+      omega (arith, c.push_reserved.ensures.len, c.loop-frame.invariant.1),
+      c.push_reserved.ensures.capacity ∙ c.loop-frame.invariant.2,
     )
 
 pub returns : goal.returns
