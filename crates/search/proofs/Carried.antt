@@ -25,7 +25,7 @@ begun b ds = record { moves = []; shown = refl; legal = tt; along = refl; now_at
 
 module _ (b : Bay) (ds : List ℕ) (steps : List Step) (n : ℕ) (c : Bay) (u : Underway b ds steps n c) where
   here : (m : Move) → step_of c m ≡ step_of (after_all b u.moves) m
-  here m = ap (λ z. step_of z m) u.now-at
+  here m = ap (λ z. step_of z m) u.now_at
 
   pub handed : (c' : Bay) (x s : ℕ) → Made c retrieve c' x s → Underway b ds (steps ++ handed_out x s ∷ []) n c'
   handed c' x s m =
@@ -35,9 +35,9 @@ module _ (b : Bay) (ds : List ℕ) (steps : List Step) (n : ℕ) (c : Bay) (u : 
             ap (λ l. l ++ handed_out x s ∷ []) u.shown
             ∙ ap (λ z. steps_of b u.moves ++ z ∷ []) (ap (λ v. handed_out v s) m.crate ∙ ap (handed_out (top_crate c)) m.stack ∙ here retrieve)
             ∙ sym (steps_more b u.moves retrieve);
-        legal = legal_more b u.moves retrieve u.legal (subst (λ z. Legal z retrieve) u.now-at m.legal);
+        legal = legal_more b u.moves retrieve u.legal (subst (λ z. Legal z retrieve) u.now_at m.legal);
         along = dests_out u.moves ∙ u.along;
-        now_at = m.after ∙ ap (λ z. moved z retrieve) u.now-at ∙ sym (after_more b u.moves retrieve);
+        now_at = m.after ∙ ap (λ z. moved z retrieve) u.now_at ∙ sym (after_more b u.moves retrieve);
         within = u.within;
       }
 
@@ -49,15 +49,15 @@ module _ (b : Bay) (ds : List ℕ) (steps : List Step) (n : ℕ) (c : Bay) (u : 
             ap (λ l. l ++ carried x s d ∷ []) u.shown
             ∙ ap (λ z. steps_of b u.moves ++ z ∷ []) (ap (λ v. carried v s d) m.crate ∙ ap (λ v. carried (top_crate c) v d) m.stack ∙ here (relocate d))
             ∙ sym (steps_more b u.moves (relocate d));
-        legal = legal_more b u.moves (relocate d) u.legal (subst (λ z. Legal z (relocate d)) u.now-at m.legal);
+        legal = legal_more b u.moves (relocate d) u.legal (subst (λ z. Legal z (relocate d)) u.now_at m.legal);
         along = dests_to u.moves d ∙ ap (λ l. l ++ d ∷ []) u.along ∙ ap (λ z. take n ds ++ z ∷ []) e ∙ sym (take_more ds n 0 l);
-        now_at = m.after ∙ ap (λ z. moved z (relocate d)) u.now-at ∙ sym (after_more b u.moves (relocate d));
+        now_at = m.after ∙ ap (λ z. moved z (relocate d)) u.now_at ∙ sym (after_more b u.moves (relocate d));
         within = omega arith;
       }
 
   ended : (rest : List ℕ) → drop n ds ≡ rest → Stuck c rest → CarriedOut b ds steps
   ended rest e f =
-      carried_out b ds steps u.moves rest u.shown u.legal (ap (λ l. l ++ rest) u.along ∙ ap (λ r. take n ds ++ r) (sym e) ∙ take-append-drop n ds) (subst (λ z. Stuck z rest) u.now-at f)
+      carried_out b ds steps u.moves rest u.shown u.legal (ap (λ l. l ++ rest) u.along ∙ ap (λ r. take n ds ++ r) (sym e) ∙ take-append-drop n ds) (subst (λ z. Stuck z rest) u.now_at f)
 
   -- no destination is left
   pub spent : (c' : Bay) → length ds ≤ n → Left c retrieve c' → CarriedOut b ds steps

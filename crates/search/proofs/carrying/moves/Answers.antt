@@ -8,11 +8,11 @@ use Rattle.search.specs.Steps.{step_told, steps_told}
 use Rattle.search.proofs.Carried.{Underway, handed, went, spent, barred, fewer_out, same_to}
 use Rattle.search.proofs.carrying.moves.Goals as goal
 
-pub loop-out-smaller-in-Continue· : goal.loop-out-smaller-in-Continue·
-loop-out-smaller-in-Continue· c = omega (arith, fewer_out (shown c.loop-out.here) (shown c.retrieve.new.self) _ _ c.in-Some.ensures)
+pub loop-out-smaller-in-Continue-1 : goal.loop-out-smaller-in-Continue-1
+loop-out-smaller-in-Continue-1 c = omega (arith, fewer_out (shown c.loop-out.here) (shown c.retrieve.new.self) _ _ c.in-Some.ensures)
 
-pub loop-out-preserved-in-Continue· : goal.loop-out-preserved-in-Continue·
-loop-out-preserved-in-Continue· c =
+pub loop-out-preserved-in-Continue-1 : goal.loop-out-preserved-in-Continue-1
+loop-out-preserved-in-Continue-1 c =
     let b = shown c.args.bay.now in
     let ds = c.args.destinations.now in
     let c' = shown c.retrieve.new.self in
