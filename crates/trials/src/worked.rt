@@ -7,29 +7,31 @@ use model::numbers::{CallNumber, CrateNumber};
 use search::deepening::search;
 use search::outcome::Kind;
 use search::workspace::Workspace;
-use std::process::Abort;
-use std::test::*;
+use std::test::Fail;
+
+// A failure of the test that says what was expected.
+fn check(holds: bool, what: &'static str) -> Result<(), Fail> {
+    if holds { Ok(()) } else { Err(Fail::new(what)) }
+}
 
 // A bay by its clearance and the calls of its stacks, bottom first, 0 for uncalled; crates are numbered as they are laid down.
-fn bay_of(rt: &impl Abort, clearance: u8, stacks: &[&[u16]]) -> Result<WorkBay, Fail> {
+fn bay_of(clearance: u8, stacks: &[&[u16]]) -> Result<WorkBay, Fail> {
     let mut bay = WorkBay::new();
     let mut number: u32 = 0;
     for calls in stacks {
-        assert!(rt; bay.add_stack(clearance).is_ok());
-        number = fill(rt, &mut bay, number, calls)?;
+        check(bay.add_stack(clearance).is_ok(), "a stack more")?;
+        number = fill(&mut bay, number, calls)?;
     }
     Ok(bay)
 }
 
-fn fill(rt: &impl Abort, bay: &mut WorkBay, last: u32, calls: &[u16]) -> Result<u32, Fail> {
+fn fill(bay: &mut WorkBay, last: u32, calls: &[u16]) -> Result<u32, Fail> {
     let mut number = last;
     for call in calls {
         number = number.saturating_add(1);
         let s = bay.stacks();
-        assert!(rt;
-            bay.add_crate(s, CrateNumber { number }, CallNumber { number: *call })
-                .is_ok()
-        );
+        let added = bay.add_crate(s, CrateNumber { number }, CallNumber { number: *call });
+        check(added.is_ok(), "a crate more")?;
     }
     Ok(number)
 }
@@ -46,17 +48,11 @@ fn expect<B: LowerBound>(
 ) -> Result<(), Fail> {
     let mut space = Workspace::new(rt.alloc())?;
     let outcome = search(bay, bound, budget, &mut space);
-    assert_eq!(outcome.tries, tries);
-    assert!(space.destinations() == destinations);
+    check(outcome.tries == tries, "the number of tries")?;
+    check(space.destinations() == destinations, "the destinations")?;
     match (outcome.kind, kind) {
-        (Kind::Fewest(n), Kind::Fewest(m)) => {
-            assert_eq!(n, m);
-            Ok(())
-        },
-        (Kind::AtLeast(n), Kind::AtLeast(m)) => {
-            assert_eq!(n, m);
-            Ok(())
-        },
+        (Kind::Fewest(n), Kind::Fewest(m)) => check(n == m, "the number of relocations"),
+        (Kind::AtLeast(n), Kind::AtLeast(m)) => check(n == m, "the number of relocations"),
         (Kind::NoWay, Kind::NoWay) => Ok(()),
         _ => Err(Fail::new("another kind of outcome")),
     }
@@ -90,31 +86,31 @@ fn no_stacks(rt: HostRuntime) -> Result<(), Fail> {
 
 #[test]
 fn in_order_already(rt: HostRuntime) -> Result<(), Fail> {
-    let bay = bay_of(&rt, 2, &[&[2, 1]])?;
+    let bay = bay_of(2, &[&[2, 1]])?;
     expect_all(&rt, &bay, Kind::Fewest(0), [0, 0, 0], &[])
 }
 
 #[test]
 fn one_stack_and_nowhere_to_go(rt: HostRuntime) -> Result<(), Fail> {
-    let bay = bay_of(&rt, 2, &[&[1, 2]])?;
+    let bay = bay_of(2, &[&[1, 2]])?;
     expect_all(&rt, &bay, Kind::NoWay, [0, 0, 0], &[])
 }
 
 #[test]
 fn one_blocker_one_free_stack(rt: HostRuntime) -> Result<(), Fail> {
-    let bay = bay_of(&rt, 2, &[&[1, 2], &[]])?;
+    let bay = bay_of(2, &[&[1, 2], &[]])?;
     expect_all(&rt, &bay, Kind::Fewest(1), [2, 1, 1], &[2])
 }
 
 #[test]
 fn one_blocker_moved_twice(rt: HostRuntime) -> Result<(), Fail> {
-    let bay = bay_of(&rt, 3, &[&[1, 3], &[2]])?;
+    let bay = bay_of(3, &[&[1, 3], &[2]])?;
     expect_all(&rt, &bay, Kind::Fewest(2), [5, 3, 2], &[2, 1])
 }
 
 #[test]
 fn budgets_around_the_last_try(rt: HostRuntime) -> Result<(), Fail> {
-    let bay = bay_of(&rt, 3, &[&[1, 3], &[2]])?;
+    let bay = bay_of(3, &[&[1, 3], &[2]])?;
     expect(&rt, &bay, &BlockingCount, 3, Kind::Fewest(2), 3, &[2, 1])?;
     expect(&rt, &bay, &BlockingCount, 2, Kind::AtLeast(2), 2, &[])?;
     expect(&rt, &bay, &BlockingCount, 0, Kind::AtLeast(1), 0, &[])
@@ -122,19 +118,19 @@ fn budgets_around_the_last_try(rt: HostRuntime) -> Result<(), Fail> {
 
 #[test]
 fn free_stack_without_clearance(rt: HostRuntime) -> Result<(), Fail> {
-    let mut bay = bay_of(&rt, 2, &[&[1, 2]])?;
-    assert!(rt; bay.add_stack(0).is_ok());
+    let mut bay = bay_of(2, &[&[1, 2]])?;
+    check(bay.add_stack(0).is_ok(), "a stack more")?;
     expect_all(&rt, &bay, Kind::NoWay, [0, 0, 0], &[])
 }
 
 #[test]
 fn dead_end(rt: HostRuntime) -> Result<(), Fail> {
-    let bay = bay_of(&rt, 3, &[&[1, 3, 2], &[5, 4]])?;
+    let bay = bay_of(3, &[&[1, 3, 2], &[5, 4]])?;
     expect_all(&rt, &bay, Kind::NoWay, [2, 1, 2], &[])
 }
 
 #[test]
 fn uncalled_crate_on_top(rt: HostRuntime) -> Result<(), Fail> {
-    let bay = bay_of(&rt, 2, &[&[1, 0], &[0]])?;
+    let bay = bay_of(2, &[&[1, 0], &[0]])?;
     expect(&rt, &bay, &BlockingCount, 1000000, Kind::Fewest(1), 1, &[2])
 }
