@@ -1,5 +1,5 @@
 ghost use Rattle.model.specs.Bounds.{null};
-ghost use Rattle.std.proofs.Common.{rules};
+ghost use Rattle.model.proofs.LookAhead.{null_honest};
 
 use crate::bound::LowerBound;
 use bay::work::WorkBay;
@@ -11,7 +11,7 @@ pub struct NullBound;
 impl LowerBound for NullBound {
     ghost value = { λ _. null };
 
-    ghost honest = { Prim.search rules };
+    ghost honest = { λ bound. null_honest };
 
     fn estimate(&self, bay: &WorkBay) -> u16 {
         0

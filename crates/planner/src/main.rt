@@ -12,6 +12,7 @@ use search::outcome::{Kind, Outcome};
 use search::workspace::Workspace;
 use std::io;
 use std::io::Read;
+use std::process::ExitCode;
 use text::picture::Picture;
 use text::read::read_requests;
 use text::request::{BoundChoice, Request};
@@ -78,12 +79,13 @@ fn run(rt: &HostRuntime) -> anyhow::Result<()> {
     Ok(())
 }
 
-fn main(rt: HostRuntime) -> anyhow::Result<()> {
+// A fault is one line on standard error. That even that line may not be written changes nothing: the status says it.
+fn main(rt: HostRuntime) -> ExitCode {
     match run(&rt) {
-        Ok(()) => Ok(()),
+        Ok(()) => ExitCode::SUCCESS,
         Err(fault) => {
-            eprintln!(rt; "planner: {fault}")?;
-            Err(fault)
+            let _ = eprintln!(rt; "planner: {fault}");
+            ExitCode::FAILURE
         }
     }
 }
