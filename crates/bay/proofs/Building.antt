@@ -1,18 +1,17 @@
 -- A stack more, and a crate more.
-use Rattle.std.proofs.Common.{◌≡◌, ℕ, zero, suc, ◌+◌, ◌-◌, ◌*◌, ◌<◌, ◌≤◌, Bool, true, false, cond, not, ◌&&◌, eqb, ltb, leb, ◌≢◌, ◌⊎◌, List, [], ◌∷◌, ◌++◌, length, get_or, set, Some, None, Option, sym, refl, ap, ◌∙◌, subst, inl, inr, ⊎_elim, arith}
-use Rattle.std.proofs.lemmas.Bool.{lt-ltb, le-ltb, ltb-false, le-leb, lt-leb, leb-false, eq-eqb, ne_eqb, eqb-false, and_from, and_left, and_right, and_cases, cases_Bool, true≢false}
+use Rattle.std.proofs.Common.{◌≡◌, ℕ, ◌+◌, ◌-◌, ◌<◌, ◌≤◌, true, false, cond, ◌&&◌, eqb, ltb, ◌≢◌, ◌⊎◌, length, get_or, set, Some, None, Option, sym, ap, ◌∙◌, subst, arith}
+use Rattle.std.proofs.lemmas.Bool.{lt-ltb, le-ltb, le-leb, lt-leb}
 use Rattle.std.proofs.lemmas.Bool.Decides.{nat_tests}
-use Rattle.model.specs.Bays.{Bay, Slot, items_at, stack_at, is_there, put_on, tally, is_crate, is_call, out_of_range, Sound}
-use Rattle.model.proofs.Changes.{put}
-use Rattle.model.proofs.Soundness.{sound_more, sound_put}
+use Rattle.model.specs.Bays.{Bay, Slot, is_there, tally, is_crate, is_call, out_of_range, Sound}
+use Rattle.model.proofs.Soundness.{sound_more}
 use Rattle.bay.specs.declared.faults.BuildFault.{BuildFault}
 use Rattle.bay.specs.declared.faults.BuildFault.TheVariants.{TooManyStacks, ClearanceTooHigh, NoSuchStack, StackFull, CrateZero, CrateTwice, CallTwice}
 use Rattle.bay.specs.declared.work.WorkBay.{WorkBay}
 use Rattle.bay.specs.Build.{stack_fault, with_stack, crate_fault, Newcomer}
 use Rattle.bay.specs.Ask.{height_at}
-use Rattle.bay.specs.Flat.{flat, UpToEight}
+use Rattle.bay.specs.Flat.{flat}
 use Rattle.bay.specs.Shown.{shown}
-use Rattle.bay.proofs.Flats.{flat_stack, flat_put, eight_set}
+use Rattle.bay.proofs.Flats.{flat_stack}
 use Rattle.bay.proofs.Working.{stacks_is, work_sound, height_is}
 
 module _ (w : WorkBay) (c : ℕ) where

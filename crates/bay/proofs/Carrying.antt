@@ -1,9 +1,8 @@
 -- A crate carried from one stack to another.
-use Rattle.std.proofs.Common.{◌≡◌, ℕ, zero, suc, ◌+◌, ◌-◌, ◌*◌, ◌<◌, ◌≤◌, Bool, true, false, cond, not, ◌&&◌, eqb, ltb, leb, ◌≢◌, ◌⊎◌, List, [], ◌∷◌, ◌++◌, length, get_or, sym, refl, ap, ◌∙◌, subst, inl, inr, ⊎_elim, arith}
-use Rattle.std.proofs.lemmas.Bool.{eq-eqb, lt-ltb, ltb-true, ltb-false, le-ltb, eqb-false, and_parts, not-true, cases_lt}
-use Rattle.std.proofs.lemmas.Bool.Decides.{nat_tests}
+use Rattle.std.proofs.Common.{◌≡◌, ℕ, zero, suc, ◌+◌, ◌-◌, ◌*◌, ◌<◌, ◌≤◌, Bool, true, false, not, ◌&&◌, eqb, ltb, ◌≢◌, ◌⊎◌, List, [], ◌∷◌, length, get_or, sym, refl, ap, ◌∙◌, subst, inl, inr, ⊎_elim, arith}
+use Rattle.std.proofs.lemmas.Bool.{eq-eqb, lt-ltb, ltb-true, eqb-false, and_parts, not-true, cases_lt}
 use Rattle.std.proofs.lemmas.List.{get_or_past}
-use Rattle.model.specs.Bays.{Bay, Stack, Slot, no_stack, no_slot, items_at, stack_at, top_slot, taken_from, put_on, relocated, tally, one, is_crate, is_call, out_of_range, has_space, Sound}
+use Rattle.model.specs.Bays.{Bay, Stack, Slot, no_stack, no_slot, items_at, stack_at, top_slot, taken_from, one, is_crate, is_call, out_of_range, has_space, Sound}
 use Rattle.model.proofs.Stacks.{Topped, topped, top_slot_snoc}
 use Rattle.model.proofs.Changes.{Taken, taken, taken_tally}
 use Rattle.bay.specs.declared.work.WorkBay.{WorkBay}

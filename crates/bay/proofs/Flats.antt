@@ -1,10 +1,10 @@
 -- What a change of the flat arrays does to the bay that they stand for.
-use Rattle.std.proofs.Common.{◌≡◌, ℕ, zero, suc, pred, ◌+◌, ◌-◌, ◌*◌, ◌<◌, ◌≤◌, ◌≢◌, ◌⊎◌, List, [], ◌∷◌, ◌++◌, map, length, get_or, take, set, replicate, sym, refl, ap, ◌∙◌, subst, inl, inr, ⊎_elim, arith}
+use Rattle.std.proofs.Common.{◌≡◌, ℕ, zero, suc, ◌+◌, ◌*◌, ◌<◌, ◌≤◌, ◌≢◌, ◌⊎◌, List, [], ◌∷◌, ◌++◌, map, length, get_or, take, set, replicate, sym, refl, ap, ◌∙◌, subst, inl, inr, ⊎_elim, arith}
 use Rattle.std.specs.List.{range_with_len}
 use Rattle.std.proofs.lemmas.Bool.{cases_eq, cases_lt}
-use Rattle.std.proofs.lemmas.List.{ext_get_or, length-set, length-append, get_or-set_same, get_or-set_other, get_or_append_left, get_or_push, length_push, get_or_past}
+use Rattle.std.proofs.lemmas.List.{ext_get_or, length-set, get_or-set_same, get_or-set_other, get_or_past}
 use Rattle.std.proofs.lemmas.List.FromFn.{length-map-range_with_len, get_or-map-range_with_len, take-map-range_with_len, map-range_with_len_more}
-use Rattle.model.specs.Bays.{Bay, Stack, Slot, StackOf, no_stack, items_at, holding, stack_at, changed, without_top, taken_from, put_on, Sound}
+use Rattle.model.specs.Bays.{Bay, Stack, Slot, no_stack, items_at, holding, changed, taken_from, put_on, Sound}
 use Rattle.bay.specs.Flat.{slot_by, stack_by, flat, UpToEight, CratesOnce, CallsApart, InRange}
 
 -- a list made by counting depends only on the places that it counts

@@ -1,21 +1,20 @@
 -- Legal moves of a working bay.
-use Rattle.std.proofs.Common.{◌≡◌, ℕ, zero, suc, ◌+◌, ◌-◌, ◌<◌, ◌≤◌, Bool, true, false, not, ◌&&◌, eqb, ltb, ◌≢◌, ◌⊎◌, List, [], ◌∷◌, length, get_or, Some, None, Option, sym, refl, ap, ◌∙◌, subst, inl, inr, ⊎_elim, arith}
+use Rattle.std.proofs.Common.{◌≡◌, ℕ, suc, ◌+◌, ◌-◌, ◌<◌, true, false, not, eqb, ltb, ◌≢◌, ◌⊎◌, List, [], ◌∷◌, length, get_or, Some, None, Option, sym, refl, ap, ◌∙◌, subst, inl, inr, arith}
 use Rattle.std.proofs.lemmas.Bool.{lt-ltb, and_from, not_from_false, ne_eqb, both_ways}
-use Rattle.model.specs.declared.numbers.CrateNumber.{CrateNumber}
 use Rattle.model.specs.Bays.{Bay, Slot, no_stack, items_at, stack_at, top_slot, taken_from, relocated, crates, has_space}
 use Rattle.model.specs.Targets.{lowest, target}
-use Rattle.model.specs.Moves.{retrieve, relocate, Mem, destinations, Legal, moved, stack_of, settle}
+use Rattle.model.specs.Moves.{retrieve, relocate, Mem, destinations, Legal, stack_of, settle}
 use Rattle.model.proofs.Targets.{is_target}
 use Rattle.model.proofs.Settling.{settle_out, settle_still, out_fewer, Still}
 use Rattle.model.proofs.Handlings.{Relocates, legal_retrieve, legal_relocate, retrieve_legal, relocate_legal}
-use Rattle.model.proofs.Destinations.{Open, open_mem, opens as mem-open}
+use Rattle.model.proofs.Destinations.{open_mem, opens as mem-open}
 use Rattle.bay.specs.declared.work.WorkBay.{WorkBay}
 use Rattle.bay.specs.Ask.{height_at, opens}
 use Rattle.bay.specs.Move.{Made, Left}
 use Rattle.model.specs.Carrying.{top_crate}
 use Rattle.bay.specs.Shown.{shown}
-use Rattle.bay.proofs.Carrying.{standing, spacious, Carriage, carriage}
-use Rattle.bay.proofs.Working.{stacks_is, height_is, work_sound}
+use Rattle.bay.proofs.Carrying.{standing, spacious, carriage}
+use Rattle.bay.proofs.Working.{stacks_is, height_is}
 
 -- where a target is, a crate stands
 some_crate : (xs : List Slot) → lowest xs < 65536 → 0 < length xs

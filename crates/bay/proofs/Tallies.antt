@@ -1,7 +1,7 @@
 -- Counting what bears a label, crate by crate and stack by stack.
-use Rattle.std.proofs.Common.{◌≡◌, ℕ, suc, ◌+◌, ◌*◌, ◌<◌, ◌≤◌, List, [], ◌∷◌, length, get_or, drop, sym, refl, ap, ◌∙◌, arith}
+use Rattle.std.proofs.Common.{◌≡◌, ℕ, ◌+◌, ◌*◌, ◌<◌, ◌≤◌, List, get_or, drop, ap, ◌∙◌, arith}
 use Rattle.std.proofs.lemmas.List.{at_drop_more, at_drop_all}
-use Rattle.model.specs.Bays.{Bay, Slot, no_stack, no_slot, items_at, total, tally, tally_in}
+use Rattle.model.specs.Bays.{Slot, no_stack, no_slot, items_at, tally, tally_in}
 use Rattle.bay.specs.declared.faults.Label.{Label}
 use Rattle.bay.specs.declared.work.WorkBay.{WorkBay}
 use Rattle.bay.specs.Build.{bearing}

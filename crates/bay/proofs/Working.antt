@@ -1,13 +1,13 @@
 -- What the fields of a working bay say of the bay that it means.
-use Rattle.std.proofs.Common.{◌≡◌, ℕ, zero, suc, ◌+◌, ◌-◌, ◌*◌, ◌<◌, ◌≤◌, Bool, true, false, cond, not, ◌&&◌, eqb, ltb, leb, ◌≢◌, ◌⊎◌, List, [], ◌∷◌, ◌++◌, map, length, get_or, take, drop, set, sym, refl, ap, ◌∙◌, subst, inl, inr, ⊎_elim, arith}
+use Rattle.std.proofs.Common.{◌≡◌, ℕ, zero, suc, ◌+◌, ◌-◌, ◌*◌, ◌<◌, ◌≤◌, true, false, ltb, leb, ◌≢◌, ◌⊎◌, length, get_or, sym, refl, ap, ◌∙◌, inl, inr, arith}
 use Rattle.std.proofs.lemmas.Bool.{lt-ltb, le-ltb, le-leb, lt-leb, and_from, and_left, and_right}
 use Rattle.std.proofs.lemmas.List.{get_or_past}
-use Rattle.model.specs.Bays.{Bay, Stack, Slot, no_stack, no_slot, items_at, stack_at, is_there, Sound}
+use Rattle.model.specs.Bays.{Slot, no_stack, items_at, stack_at, is_there, Sound}
 use Rattle.bay.specs.declared.work.WorkBay.{WorkBay}
-use Rattle.bay.specs.Ask.{height_at, slot_in}
-use Rattle.bay.specs.Flat.{flat, slot_by, stack_by}
+use Rattle.bay.specs.Ask.{height_at}
+use Rattle.bay.specs.Flat.{slot_by, stack_by}
 use Rattle.bay.specs.Shown.{shown}
-use Rattle.bay.proofs.Flats.{flat-length, flat_at, flat_sound, items_at_lem, height_at_lem, clearance_at, row_at}
+use Rattle.bay.proofs.Flats.{flat-length, flat_sound, items_at_lem, height_at_lem, clearance_at, row_at}
 
 module _ (w : WorkBay) where
   -- every working bay is a sound bay

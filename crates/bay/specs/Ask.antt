@@ -1,6 +1,6 @@
 -- What a bay answers: of a stack or a tier that is not there, 0.
 use Rattle.std.specs.Prelude.{ℕ, zero, suc, Bool, not, ◌&&◌, List, map, length, ◌==◌, nat_lt, slice_index_or}
-use Rattle.model.specs.Bays.{Bay, Slot, no_slot, stack_at, is_there, has_space}
+use Rattle.model.specs.Bays.{Bay, Slot, no_slot, stack_at, has_space}
 
 abbrev pub height_at : Bay → ℕ → ℕ
 height_at b s = length (stack_at b s).items

@@ -1,6 +1,6 @@
 -- When a bay can be built further, and what comes of it.
-use Rattle.std.specs.Prelude.{◌≡◌, ℕ, ◌<◌, Bool, cond, not, ◌&&◌, List, [], ◌∷◌, ◌++◌, length, Some, None, Ok, Err, Option, Result, ◌==◌, nat_le, nat_lt}
-use Rattle.model.specs.Bays.{Bay, Slot, is_there, stack_at, put_on, tally, is_crate, is_call, out_of_range}
+use Rattle.std.specs.Prelude.{◌≡◌, ℕ, ◌<◌, cond, not, ◌&&◌, [], ◌∷◌, ◌++◌, length, Some, None, Ok, Err, Option, Result, ◌==◌, nat_le, nat_lt}
+use Rattle.model.specs.Bays.{Bay, Slot, is_there, stack_at, tally, is_crate, is_call, out_of_range}
 use Rattle.bay.specs.declared.faults.BuildFault.{BuildFault}
 use Rattle.bay.specs.declared.faults.BuildFault.TheVariants.{TooManyStacks, ClearanceTooHigh, NoSuchStack, StackFull, CrateZero, CrateTwice, CallTwice}
 use Rattle.bay.specs.declared.faults.Label.{Label}

@@ -1,5 +1,5 @@
 -- The blocking count, one crate and one stack at a time.
-use Rattle.std.proofs.Common.{◌≡◌, ℕ, zero, suc, ◌+◌, ◌-◌, ◌<◌, ◌≤◌, min, ltb, List, [], ◌∷◌, map, length, get_or, drop, sym, refl, ap, ◌∙◌, arith}
+use Rattle.std.proofs.Common.{◌≡◌, ℕ, suc, ◌+◌, ◌<◌, ◌≤◌, min, ltb, List, [], ◌∷◌, map, length, get_or, drop, sym, refl, ap, ◌∙◌, arith}
 use Rattle.std.proofs.lemmas.Bool.{lt-ltb, le-ltb}
 use Rattle.std.proofs.lemmas.List.{at_drop_more, at_drop_all, length-map}
 use Rattle.bay.specs.declared.work.WorkBay.{WorkBay}
@@ -7,7 +7,7 @@ use Rattle.bay.specs.Ask.{calls_at}
 use Rattle.bay.specs.Shown.{shown}
 use Rattle.bay.proofs.Working.{work_sound}
 use Rattle.model.specs.Bays.{Bay, Slot, no_stack, items_at, total, one}
-use Rattle.model.specs.Bounds.{blockers, blocking}
+use Rattle.model.specs.Bounds.{blockers}
 use Rattle.model.specs.Targets.{lateness}
 use Rattle.bounds.specs.Calls.{blockers_in}
 

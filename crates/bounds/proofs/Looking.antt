@@ -1,17 +1,17 @@
 -- The look-ahead, one stack, one crate and one target at a time.
-use Rattle.std.proofs.Common.{◌≡◌, ℕ, zero, suc, ◌+◌, ◌-◌, ◌*◌, ◌<◌, ◌≤◌, Bool, true, false, ◌&&◌, ◌||◌, eqb, ltb, ◌≢◌, List, [], ◌∷◌, map, length, get_or, take, drop, Some, None, Option, sym, refl, ap, ◌∙◌, subst, add-one, arith}
+use Rattle.std.proofs.Common.{◌≡◌, ℕ, suc, ◌+◌, ◌-◌, ◌<◌, ◌≤◌, Bool, true, false, ◌&&◌, ◌||◌, eqb, ltb, ◌≢◌, List, [], ◌∷◌, map, length, take, drop, Some, None, sym, refl, ap, ◌∙◌, add-one, arith}
 use Rattle.std.proofs.lemmas.Bool.{lt-ltb, le-ltb, eq-eqb, ne_eqb, or_left, or_right, or_from}
 use Rattle.std.proofs.lemmas.List.{at_drop_more, at_drop_all, length-map, length-drop, drop-map, take_rest}
 use Rattle.bay.specs.declared.work.WorkBay.{WorkBay}
 use Rattle.bay.specs.Ask.{height_at, calls_at}
 use Rattle.bay.specs.Shown.{shown}
 use Rattle.bay.proofs.Working.{work_sound}
-use Rattle.model.specs.Bays.{Bay, Slot, no_stack, items_at, stack_at, changed, crates, tally_in, one}
+use Rattle.model.specs.Bays.{Bay, Slot, no_stack, items_at, stack_at, changed, crates, tally_in}
 use Rattle.model.specs.Bounds.{elsewhere, weight, look_ahead}
-use Rattle.model.specs.Targets.{lateness, lowest, above_of, target, IsTarget}
+use Rattle.model.specs.Targets.{lowest, target}
 use Rattle.model.proofs.LookAhead.{ahead_one, ahead_end, fewer_off}
 use Rattle.model.proofs.Remaining.{above_small}
-use Rattle.model.proofs.Targets.{is_target, above_under}
+use Rattle.model.proofs.Targets.{above_under}
 use Rattle.bounds.specs.Calls.{weight_by}
 
 -- one stack on

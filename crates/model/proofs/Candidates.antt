@@ -1,10 +1,9 @@
 -- The best of several candidates: going over crates one by one finds the best stack.
-use Rattle.std.proofs.Common.{◌≡◌, ℕ, zero, suc, ◌+◌, ◌-◌, ◌<◌, ◌≤◌, min, Bool, true, false, cond, ◌&&◌, ◌||◌, eqb, ltb, ◌⊎◌, List, [], ◌∷◌, length, sym, refl, ap, ◌∙◌, subst, inl, inr, ⊎_elim, arith}
+use Rattle.std.proofs.Common.{◌≡◌, ℕ, ◌<◌, ◌≤◌, min, true, false, cond, ◌&&◌, eqb, ltb, ◌⊎◌, List, [], ◌∷◌, length, sym, refl, ap, ◌∙◌, subst, inl, inr, ⊎_elim, arith}
 use Rattle.std.proofs.lemmas.Bool.{ltb-true, ltb-false, lt-ltb, le-ltb, eqb-true, eqb-false, eq-eqb, ne_eqb, or_cases, or_parts, and_parts, and_cases, or_left, or_right, or_from, and_from, and_right, and_left, cases_order, cases_Bool}
-use Rattle.std.proofs.lemmas.Bool.Decides.{nat_tests}
-use Rattle.model.specs.Bays.{Bay, Slot}
-use Rattle.model.specs.Targets.{lateness, lowest, above_of, Candidate, beats, better, nobody, scan_stack, scan_bay}
-use Rattle.model.proofs.Stacks.{above_le, lowest_le}
+use Rattle.model.specs.Bays.{Slot}
+use Rattle.model.specs.Targets.{lateness, lowest, above_of, Candidate, beats, better, nobody, scan_stack}
+use Rattle.model.proofs.Stacks.{above_le}
 
 -- q goes strictly before p
 abbrev pub Before : Candidate → Candidate → Type 0

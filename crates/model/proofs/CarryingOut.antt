@@ -1,9 +1,9 @@
 -- Destinations that lead to the end are carried out by a legal handling.
-use Rattle.std.proofs.Common.{◌≡◌, ℕ, zero, suc, ◌<◌, List, [], ◌∷◌, ◌++◌, Some, None, Option, sym, refl, ap, ◌∙◌, subst, append_assoc, append-nil, arith}
-use Rattle.model.specs.Bays.{Bay, taken_from, relocated}
+use Rattle.std.proofs.Common.{◌≡◌, ℕ, zero, suc, ◌<◌, List, [], ◌∷◌, ◌++◌, Some, None, Option, sym, refl, ap, ◌∙◌, subst, append-nil, arith}
+use Rattle.model.specs.Bays.{Bay, taken_from}
 use Rattle.model.specs.Targets.{target}
 use Rattle.model.specs.Moves.{Move, retrieve, relocate, Legal, moved, Handles, dests, stack_of, settle}
-use Rattle.model.specs.Search.{ways, ways_at, next, Among, Follows}
+use Rattle.model.specs.Search.{ways, next, Follows}
 use Rattle.model.specs.Carrying.{Step, step_of, steps_of, LegalRun, after_all, Stuck, CarriedOut}
 use Rattle.model.proofs.Settling.{Still, settle_out, settle_still}
 use Rattle.model.proofs.Handlings.{among, legal_retrieve, legal_relocate, retrieve_legal, relocate_legal, ways_none}

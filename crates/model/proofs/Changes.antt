@@ -1,10 +1,10 @@
 -- What taking, putting and carrying do to a bay.
-use Rattle.std.proofs.Common.{◌≡◌, ℕ, zero, suc, pred, ◌+◌, ◌-◌, ◌<◌, ◌≤◌, min, Bool, true, false, cond, eqb, ltb, ◌≢◌, ◌⊎◌, List, [], ◌∷◌, ◌++◌, length, get_or, take, set, Some, None, Option, sym, refl, ap, ◌∙◌, subst, inl, inr, ⊎_elim, arith}
-use Rattle.std.proofs.lemmas.Bool.{eq-eqb, ne_eqb, eqb-true, eqb-false, cases_eq}
+use Rattle.std.proofs.Common.{◌≡◌, ℕ, zero, suc, ◌+◌, ◌<◌, ◌≤◌, min, ◌≢◌, ◌⊎◌, List, [], ◌∷◌, ◌++◌, length, get_or, set, sym, refl, ap, ◌∙◌, subst, inl, inr, ⊎_elim, arith}
+use Rattle.std.proofs.lemmas.Bool.{cases_eq}
 use Rattle.std.proofs.lemmas.List.{get_or-set_same, get_or-set_other, length-set, length_push}
 use Rattle.model.specs.Bays.{BayOf, StackOf, items_at, Bay, Stack, Slot, no_stack, taken_from, put_on, relocated, holding, without_top, top_slot, crates, total, tally, tally_in}
-use Rattle.model.specs.Targets.{lateness, lowest, above_of, target, NoEarlier, Targeted}
-use Rattle.model.proofs.Stacks.{Topped, topped, without_top_snoc, top_slot_snoc, lowest_snoc, above_snoc, above_top, lowest_le, above_le}
+use Rattle.model.specs.Targets.{lateness, lowest, above_of, NoEarlier, Targeted}
+use Rattle.model.proofs.Stacks.{Topped, topped, without_top_snoc, top_slot_snoc, lowest_snoc, above_snoc, above_top}
 
 pub topped_if : (xs : List Slot) → lowest xs < 65536 → Topped xs
 topped_if [] l = absurd (omega arith)

@@ -1,5 +1,5 @@
 -- The worked bays, computed from the definitions.
-use Rattle.std.proofs.Common.{refl, inl, inr}
+use Rattle.std.proofs.Common.{refl, inl}
 use Rattle.model.specs.Bays.{taken_from, put_on, relocated}
 use Rattle.model.specs.Bounds.{blocking, look_ahead}
 use Rattle.model.specs.Moves.{destinations, settle}

@@ -1,8 +1,8 @@
 -- Legal handlings are retrievals of settling, with relocations between them.
-use Rattle.std.proofs.Common.{◌≡◌, ℕ, zero, suc, pred, ◌+◌, ◌-◌, ◌<◌, ◌≤◌, min, ◌≢◌, ◌⊎◌, List, [], ◌∷◌, ◌++◌, length, replicate, Some, None, Option, sym, refl, ap, ◌∙◌, subst, inl, inr, ⊎_elim, arith}
+use Rattle.std.proofs.Common.{◌≡◌, ℕ, zero, suc, ◌<◌, List, [], ◌∷◌, ◌++◌, replicate, Some, None, Option, refl, ap, ◌∙◌, arith}
 use Rattle.model.specs.Bays.{Bay, taken_from, relocated}
 use Rattle.model.specs.Targets.{target}
-use Rattle.model.specs.Moves.{Move, retrieve, relocate, Mem, destinations, Legal, LegalAt, LegalOn, Handles, stack_of, moved, dests, relocations, settle}
+use Rattle.model.specs.Moves.{Move, retrieve, relocate, Mem, destinations, Legal, LegalAt, LegalOn, Handles, stack_of, dests, settle}
 use Rattle.model.specs.Search.{ways, ways_at, next, Among, Follows}
 use Rattle.model.proofs.Settling.{Still, Settles, stop, step, settles, settled, settle_out, settle_still}
 

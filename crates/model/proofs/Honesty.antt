@@ -1,19 +1,19 @@
 -- The blocking count and the look-ahead are honest, by one induction over a legal handling.
-use Rattle.std.proofs.Common.{◌≡◌, ℕ, zero, suc, pred, ◌+◌, ◌-◌, ◌<◌, ◌≤◌, min, Bool, true, false, cond, ◌&&◌, ◌||◌, eqb, ltb, ◌≢◌, ◌⊎◌, List, [], ◌∷◌, ◌++◌, length, get_or, Some, None, Option, sym, refl, ap, ◌∙◌, subst, inl, inr, ⊎_elim, append_assoc, append-nil, arith}
-use Rattle.std.proofs.lemmas.Bool.{ltb-true, ltb-false, lt-ltb, le-ltb, cases_eq, cases_lt, and_parts, or_cases, or_parts, eqb-true, cases_Bool}
+use Rattle.std.proofs.Common.{◌≡◌, ℕ, zero, suc, ◌+◌, ◌<◌, ◌≤◌, min, Bool, true, false, ◌||◌, eqb, ltb, ◌≢◌, ◌⊎◌, List, [], ◌∷◌, ◌++◌, length, Some, None, Option, sym, refl, ap, ◌∙◌, subst, inl, inr, ⊎_elim, append_assoc, append-nil, arith}
+use Rattle.std.proofs.lemmas.Bool.{ltb-true, lt-ltb, le-ltb, cases_eq, and_parts, or_cases, eqb-true}
 use Rattle.std.proofs.lemmas.Bool.Decides.{nat_tests}
-use Rattle.model.specs.Bays.{Bay, Stack, Slot, no_stack, items_at, taken_from, relocated, stack_at, top_slot, crates, total, tally, tally_in, one, is_call, out_of_range, Sound}
+use Rattle.model.specs.Bays.{Bay, Stack, Slot, no_stack, items_at, taken_from, relocated, stack_at, top_slot, crates, total, tally, tally_in, one, out_of_range, Sound}
 use Rattle.model.specs.Targets.{lateness, lowest, above_of, target, NoEarlier, Targeted}
-use Rattle.model.specs.Moves.{Move, retrieve, relocate, Handles, dests, relocations, stack_of, destinations}
+use Rattle.model.specs.Moves.{Move, retrieve, relocate, Handles, relocations, destinations}
 use Rattle.model.specs.Bounds.{blockers, blocking, elsewhere, weight}
-use Rattle.model.proofs.Stacks.{Topped, topped, lowest_snoc, lowest_le, top_slot_snoc}
-use Rattle.model.proofs.Targets.{target_is, Seen, seen, nothing, something, items_at_beyond}
+use Rattle.model.proofs.Stacks.{Topped, topped, lowest_le, top_slot_snoc}
+use Rattle.model.proofs.Targets.{target_is, Seen, seen, nothing, something}
 use Rattle.model.proofs.Calls.{alone}
-use Rattle.model.proofs.Changes.{topped_if, Taken, taken, Carried, carried, Peeled, peeled, topmost, taken_crates}
+use Rattle.model.proofs.Changes.{Taken, taken, Carried, carried, Peeled, peeled, topmost}
 use Rattle.model.proofs.Settling.{some_fewer}
 use Rattle.model.proofs.Handlings.{Relocates, legal_retrieve, legal_relocate}
-use Rattle.model.proofs.Destinations.{Open, opens}
-use Rattle.model.proofs.Soundness.{Topping, topping, sound_retrieved, Relocation, relocates}
+use Rattle.model.proofs.Destinations.{opens}
+use Rattle.model.proofs.Soundness.{topping, sound_retrieved, relocates}
 
 -- the look-ahead, one crate at a time
 abbrev pub peel_on : (Bay → ℕ) → Bay → ℕ → ℕ → ℕ

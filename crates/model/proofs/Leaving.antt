@@ -1,18 +1,18 @@
 -- A legal handling brings out every called crate, lowest call number first.
-use Rattle.std.proofs.Common.{◌≡◌, ℕ, zero, suc, ◌+◌, ◌<◌, ◌≤◌, min, ◌≢◌, ◌⊎◌, List, [], ◌∷◌, ◌++◌, length, Some, None, sym, refl, ap, ◌∙◌, subst, inl, inr, ⊎_elim, arith}
+use Rattle.std.proofs.Common.{◌≡◌, ℕ, suc, ◌+◌, ◌<◌, ◌≤◌, min, ◌≢◌, ◌⊎◌, List, [], ◌∷◌, ◌++◌, Some, None, sym, ap, ◌∙◌, subst, inl, inr, arith}
 use Rattle.std.proofs.lemmas.Bool.{cases_eq}
 use Rattle.std.proofs.lemmas.Bool.Decides.{nat_tests}
-use Rattle.model.specs.Bays.{Bay, Stack, Slot, items_at, stack_at, taken_from, relocated, top_slot, Sound, tally, tally_in, total, is_call, out_of_range}
+use Rattle.model.specs.Bays.{Bay, Stack, Slot, items_at, stack_at, taken_from, relocated, top_slot, Sound, tally, tally_in, is_call, out_of_range}
 use Rattle.model.specs.Targets.{lateness, lowest, above_of, target, Targeted}
-use Rattle.model.specs.Moves.{Move, retrieve, relocate, Handles, stack_of, moved, destinations}
+use Rattle.model.specs.Moves.{Move, retrieve, relocate, Handles, stack_of, destinations}
 use Rattle.model.specs.Leaving.{leaving, Rising, is_slot, BringsOut}
-use Rattle.model.proofs.Stacks.{Topped, top_slot_snoc, lowest_snoc}
+use Rattle.model.proofs.Stacks.{top_slot_snoc, lowest_snoc}
 use Rattle.model.proofs.Calls.{lateness_call, has_call, tally_at}
 use Rattle.model.proofs.Changes.{Taken, taken, Carried, carried, taken_tally, carried-tally, topmost}
 use Rattle.model.proofs.Handlings.{legal_retrieve, legal_relocate, Relocates}
 use Rattle.model.proofs.Honesty.{none_low}
-use Rattle.model.proofs.Destinations.{opens, Open}
-use Rattle.model.proofs.Soundness.{topping, Topping, sound_retrieved, relocates}
+use Rattle.model.proofs.Destinations.{opens}
+use Rattle.model.proofs.Soundness.{topping, sound_retrieved, relocates}
 use Rattle.model.proofs.Targets.{least_at}
 
 -- every crate is called later than k

@@ -1,15 +1,15 @@
 -- The look-ahead by whole stacks is the look-ahead one crate at a time, and so it is honest.
-use Rattle.std.proofs.Common.{◌≡◌, ℕ, zero, suc, ◌+◌, ◌-◌, ◌*◌, ◌<◌, ◌≤◌, min, Bool, true, false, ◌&&◌, ◌||◌, eqb, ltb, ◌≢◌, ◌⊎◌, List, [], ◌∷◌, ◌++◌, length, get_or, take, drop, set, Some, None, Option, sym, refl, ap, ◌∙◌, subst, inl, inr, ⊎_elim, arith}
+use Rattle.std.proofs.Common.{◌≡◌, ℕ, zero, suc, ◌+◌, ◌-◌, ◌*◌, ◌<◌, ◌≤◌, min, Bool, true, false, ◌&&◌, ◌||◌, eqb, ltb, ◌≢◌, List, [], ◌∷◌, ◌++◌, length, get_or, take, drop, set, Some, None, Option, sym, refl, ap, ◌∙◌, subst, inr, ⊎_elim, arith}
 use Rattle.std.proofs.lemmas.Bool.{eq-eqb, cases_eq}
 use Rattle.std.proofs.lemmas.List.{set-set, take-append-le, drop-append-le, length_push, drop_all, length-take}
 use Rattle.model.specs.Bays.{Bay, Stack, Slot, no_stack, items_at, taken_from, stack_at, holding, changed, top_slot, without_top, crates, total, tally_in, one, Sound}
 use Rattle.model.specs.Targets.{lateness, lowest, above_of, target, NoEarlier, Targeted}
 use Rattle.model.specs.Bounds.{elsewhere, weight, ahead_at, ahead_for, look_ahead, blockers, blocking, null}
 use Rattle.model.specs.Claims.{Honest}
-use Rattle.model.proofs.Stacks.{Topped, topped, top_slot_snoc, without_top_snoc}
+use Rattle.model.proofs.Stacks.{top_slot_snoc}
 use Rattle.model.proofs.Targets.{target_is, is_target, above_under, Seen, seen, nothing, something}
 use Rattle.model.proofs.Changes.{topped_if, Taken, taken, Peeled, peeled, no_earlier_less, total-set, room_set, tally_snoc}
-use Rattle.model.proofs.Settling.{some_crate, some_fewer}
+use Rattle.model.proofs.Settling.{some_crate}
 use Rattle.model.proofs.Honesty.{peel_for, peel_at, peel_on, peeled_ahead, ahead_none, ahead_some, slots_of, ahead_honest, blocking_honest}
 use Rattle.model.proofs.Remaining.{crates_le}
 

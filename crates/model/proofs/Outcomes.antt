@@ -1,13 +1,13 @@
 -- What the search promises of legal handlings, over every sound bay, honest bound and budget.
-use Rattle.std.proofs.Common.{◌≡◌, ℕ, zero, suc, ◌+◌, ◌<◌, ◌≤◌, true, false, List, [], ◌∷◌, length, None, sym, refl, ap, ◌∙◌, subst, arith}
+use Rattle.std.proofs.Common.{◌≡◌, ℕ, suc, ◌+◌, ◌<◌, ◌≤◌, true, false, List, [], ◌∷◌, length, None, sym, ap, ◌∙◌, subst, arith}
 use Rattle.model.specs.Bays.{Bay, Sound}
 use Rattle.model.specs.Targets.{target}
 use Rattle.model.specs.Moves.{Move, Handles, dests, relocations, settle}
-use Rattle.model.specs.Search.{Follows, Among, ways, ways_at, next, from_ways, next_round, Outcome, fewest, at_least, no_way, searched, searched_within, rounds, over, found, deep}
-use Rattle.model.specs.Claims.{Honest, Fewest, Says, UsedUp, Agrees, Unlimited, Promised}
+use Rattle.model.specs.Search.{Follows, ways, ways_at, next, from_ways, next_round, Outcome, fewest, at_least, no_way, searched, searched_within, rounds, over, found, deep}
+use Rattle.model.specs.Claims.{Honest, Says, UsedUp, Agrees, Unlimited, Promised}
 use Rattle.model.proofs.Rounds.{Laws, Right, Meant, round_right, rounds_meant, rounds_same, same_plan, rounds-spent, OnBudget, cut_below}
 use Rattle.model.proofs.Settling.{settled, settles}
-use Rattle.model.proofs.Handlings.{followed, handled, planned, Handling}
+use Rattle.model.proofs.Handlings.{followed, handled, planned}
 use Rattle.model.proofs.Leaving.{brings_out}
 use Rattle.model.proofs.Soundness.{sound_settles}
 use Rattle.model.proofs.Remaining.{Fine, keeps, falls, left, left_small}

@@ -1,13 +1,13 @@
 -- How many relocations can be left: each relocation of a legal handling brings the number down, and a sound bay has at most 672.
-use Rattle.std.proofs.Common.{◌≡◌, ℕ, zero, suc, pred, ◌+◌, ◌*◌, ◌<◌, ◌≤◌, ◌≢◌, ◌⊎◌, List, [], ◌∷◌, ◌++◌, length, Some, None, Option, sym, refl, ap, ◌∙◌, subst, inl, inr, ⊎_elim, arith}
+use Rattle.std.proofs.Common.{◌≡◌, ℕ, suc, pred, ◌+◌, ◌*◌, ◌<◌, ◌≤◌, List, [], ◌∷◌, length, Some, None, Option, arith}
 use Rattle.model.specs.Bays.{Bay, Slot, items_at, taken_from, relocated, crates, Sound}
 use Rattle.model.specs.Targets.{target, above_of}
-use Rattle.model.specs.Search.{ways, next, Among, Follows}
+use Rattle.model.specs.Search.{ways, next, Among}
 use Rattle.model.proofs.Stacks.{Topped, above_le}
 use Rattle.model.proofs.Targets.{Seen, seen, nothing, something}
 use Rattle.model.proofs.Settling.{Still, Settles, stop, step, settles, settled, some_crate, out_fewer}
 use Rattle.model.proofs.Handlings.{among}
-use Rattle.model.proofs.Soundness.{topping, sound_retrieved, sound_settles, Relocation, relocates}
+use Rattle.model.proofs.Soundness.{topping, sound_retrieved, sound_settles, relocates}
 
 -- how many relocations can be left at most, with heights of at most 8
 abbrev pub left_at : ℕ → Option (ℕ × ℕ) → ℕ

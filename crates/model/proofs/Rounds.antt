@@ -1,9 +1,9 @@
 -- One round, and the rounds: what each end of the search says of the lists of destinations that lead to the end.
-use Rattle.std.proofs.Common.{◌≡◌, ℕ, zero, suc, ◌+◌, ◌-◌, ◌<◌, ◌≤◌, Bool, true, false, eqb, ltb, ◌⊎◌, List, [], ◌∷◌, ◌++◌, length, Some, None, Option, sym, refl, ap, ◌∙◌, subst, inl, inr, ⊎_elim, arith}
-use Rattle.std.proofs.lemmas.Bool.{ltb-true, ltb-false, eqb-true, cases_order, true≢false, false≢true}
+use Rattle.std.proofs.Common.{◌≡◌, ℕ, zero, suc, ◌+◌, ◌<◌, ◌≤◌, Bool, true, false, eqb, ltb, ◌⊎◌, List, [], ◌∷◌, length, Some, None, Option, sym, refl, ap, ◌∙◌, subst, inl, inr, ⊎_elim, arith}
+use Rattle.std.proofs.lemmas.Bool.{ltb-true, ltb-false, eqb-true, true≢false, false≢true}
 use Rattle.model.specs.Bays.{Bay}
 use Rattle.model.specs.Moves.{Mem}
-use Rattle.model.specs.Search.{Among, ways, next, Follows, Sooner, Earlier, Round, found, spent, over, Outcome, fewest, at_least, no_way, onward, unless_spent, unless_cut, tried, across, from_ways, deep, next_round, rounds}
+use Rattle.model.specs.Search.{Among, ways, next, Follows, Sooner, Earlier, Round, found, spent, over, Outcome, fewest, at_least, no_way, onward, unless_spent, unless_cut, across, from_ways, deep, next_round, rounds}
 use Rattle.model.proofs.Destinations.{Ordered, OrderedIn, sooner_once, sooner_ordered, sooner_total}
 use Rattle.model.proofs.Depth.{same_deep}
 

@@ -1,11 +1,10 @@
 -- Settling: the retrievals that it makes, and that they are determined.
-use Rattle.std.proofs.Common.{◌≡◌, ℕ, zero, suc, pred, ◌+◌, ◌-◌, ◌<◌, ◌≤◌, min, Bool, true, false, cond, ◌≢◌, ◌⊎◌, List, [], ◌∷◌, ◌++◌, length, get_or, take, set, replicate, Some, None, Option, sym, refl, ap, ◌∙◌, subst, inl, inr, ⊎_elim, arith}
-use Rattle.model.specs.Bays.{Bay, Stack, Slot, items_at, taken_from, crates}
+use Rattle.std.proofs.Common.{◌≡◌, ℕ, zero, suc, ◌<◌, ◌≤◌, Some, None, Option, sym, refl, ap, ◌∙◌, subst, arith}
+use Rattle.model.specs.Bays.{Bay, items_at, taken_from, crates}
 use Rattle.model.specs.Targets.{target}
 use Rattle.model.specs.Moves.{settle, settle_for, settle_at, settle_on}
-use Rattle.model.proofs.Stacks.{Topped}
 use Rattle.model.proofs.Targets.{same_pair, is_target, Seen, seen, nothing, something}
-use Rattle.model.proofs.Changes.{topped_if, taken, Taken, taken_crates}
+use Rattle.model.proofs.Changes.{topped_if, taken, taken_crates}
 
 -- no target, or not on top
 abbrev pub Still : Option (ℕ × ℕ) → Type 0

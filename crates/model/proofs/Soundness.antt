@@ -1,5 +1,5 @@
 -- Legal moves keep a bay sound.
-use Rattle.std.proofs.Common.{◌≡◌, ℕ, zero, suc, ◌+◌, ◌<◌, ◌≤◌, ◌≢◌, ◌⊎◌, List, [], ◌∷◌, ◌++◌, length, get_or, take, Some, None, sym, refl, ap, ◌∙◌, subst, inl, inr, ⊎_elim, arith}
+use Rattle.std.proofs.Common.{◌≡◌, ℕ, zero, suc, ◌+◌, ◌<◌, ◌≤◌, ◌≢◌, ◌⊎◌, List, [], ◌∷◌, ◌++◌, length, get_or, take, Some, sym, refl, ap, subst, inl, inr, arith}
 use Rattle.std.proofs.lemmas.Bool.{cases_eq, cases_order, eq-eqb, ne_eqb}
 use Rattle.std.proofs.lemmas.List.{length_push, get_or_push, get_or_append_left, get_or_past, get_or-set_same, get_or-set_other, length-set, length-take}
 use Rattle.model.specs.Bays.{Bay, Stack, Slot, no_stack, items_at, holding, changed, taken_from, relocated, crates, Sound, CrateId, total, tally, tally_in, one, is_crate, is_call, out_of_range}
@@ -10,7 +10,7 @@ use Rattle.model.proofs.Targets.{target_is, is_target}
 use Rattle.model.proofs.Changes.{topped_if, total-set, room_set, Taken, taken, Put, put_tally, Carried, carried, target-carried, taken_tally, carried-tally, carried-crates}
 use Rattle.model.proofs.Settling.{Settles, stop, step}
 use Rattle.model.proofs.Handlings.{Relocates}
-use Rattle.model.proofs.Destinations.{Open, opens}
+use Rattle.model.proofs.Destinations.{opens}
 
 pub sound_taken : (b b' : Bay) (i : ℕ) (ys : List Slot) (y : Slot) → items_at b i ≡ ys ++ y ∷ [] → Taken b b' i ys y → Sound b → Sound b'
 sound_taken b b' i ys y e t s =

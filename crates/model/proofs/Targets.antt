@@ -1,10 +1,10 @@
 -- What the target is, stack by stack.
-use Rattle.std.proofs.Common.{◌≡◌, ℕ, zero, suc, pred, ◌+◌, ◌<◌, ◌≤◌, min, true, false, cond, ltb, ◌⊎◌, List, [], ◌∷◌, length, get_or, Some, None, Option, sym, refl, ap, ◌∙◌, subst, inl, inr, ⊎_elim, arith}
-use Rattle.std.proofs.lemmas.Bool.{lt-ltb, le-ltb, cases_lt, cases_order}
+use Rattle.std.proofs.Common.{◌≡◌, ℕ, zero, suc, ◌+◌, ◌<◌, ◌≤◌, cond, ◌⊎◌, List, [], ◌∷◌, length, Some, None, Option, sym, refl, ap, ◌∙◌, subst, inl, inr, ⊎_elim, arith}
+use Rattle.std.proofs.lemmas.Bool.{lt-ltb, cases_lt, cases_order}
 use Rattle.model.specs.Bays.{Bay, Stack, Slot, items_at, stack_at}
-use Rattle.model.specs.Targets.{lateness, lowest, above_of, Candidate, nobody, better, scan_stack, scan_bay, chosen, target, NoEarlier, Targeted, IsTarget, TargetMeans}
-use Rattle.model.proofs.Stacks.{lowest_le, above_le}
-use Rattle.model.proofs.Candidates.{Before, NoLater, takes, stays, compared, weaker, offer, scan_stack_lem, Fair, fair_nobody, fair_better, no_later_before, before_no_later, no_later_trans, before_trans}
+use Rattle.model.specs.Targets.{lowest, above_of, Candidate, nobody, better, scan_stack, scan_bay, chosen, target, NoEarlier, Targeted, IsTarget, TargetMeans}
+use Rattle.model.proofs.Stacks.{above_le}
+use Rattle.model.proofs.Candidates.{Before, NoLater, takes, stays, compared, weaker, offer, scan_stack_lem, Fair, fair_nobody, fair_better, before_no_later, before_trans}
 
 -- how a scan from stack n on ends: the best so far stays, or a stack of the bay takes its place
 pub data Scanned (best : Candidate) (n : ℕ) (b : Bay) : Type 0 where

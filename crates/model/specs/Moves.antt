@@ -1,5 +1,5 @@
 -- Legal moves, legal handlings, settling.
-use Rattle.std.specs.Prelude.{◌≡◌, ℕ, zero, suc, ◌+◌, Bool, cond, not, ◌&&◌, ◌⊎◌, List, [], ◌∷◌, length, Some, None, Option, ◌==◌}
+use Rattle.std.specs.Prelude.{◌≡◌, ℕ, zero, suc, cond, not, ◌&&◌, ◌⊎◌, List, [], ◌∷◌, length, Some, None, Option, ◌==◌}
 use Rattle.model.specs.Bays.{Bay, has_space, taken_from, relocated, crates}
 use Rattle.model.specs.Targets.{target}
 

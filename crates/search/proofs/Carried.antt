@@ -1,9 +1,8 @@
 -- The moves of a run, one more each turn.
-use Rattle.std.proofs.Common.{◌≡◌, ℕ, ◌+◌, ◌<◌, ◌≤◌, List, [], ◌∷◌, ◌++◌, length, get_or, take, drop, sym, refl, ap, ◌∙◌, subst, append_assoc, append-nil, arith}
-use Rattle.std.proofs.lemmas.List.{drop_more, drop_all, take_more, take-append-drop, map_push}
+use Rattle.std.proofs.Common.{◌≡◌, ℕ, ◌+◌, ◌<◌, ◌≤◌, List, [], ◌∷◌, ◌++◌, length, get_or, take, drop, sym, refl, ap, ◌∙◌, subst, arith}
+use Rattle.std.proofs.lemmas.List.{drop_more, drop_all, take_more, take-append-drop}
 use Rattle.bay.specs.Move.{Made, Left}
 use Rattle.model.specs.Bays.{Bay, crates, taken_from, relocated}
-use Rattle.model.specs.Targets.{target}
 use Rattle.model.specs.Moves.{Move, retrieve, relocate, Legal, moved, dests, stack_of}
 use Rattle.model.specs.Carrying.{Step, handed_out, carried, top_crate, step_of, steps_of, LegalRun, after_all, Stuck, CarriedOut}
 use Rattle.model.proofs.Settling.{out_fewer}

@@ -1,9 +1,9 @@
 -- The rounds of the search.
-use Rattle.std.proofs.Common.{◌≡◌, ℕ, zero, suc, ◌+◌, ◌-◌, ◌<◌, ◌≤◌, Bool, true, false, List, [], ◌∷◌, length, Some, None, sym, refl, ap, ◌∙◌, subst, arith}
+use Rattle.std.proofs.Common.{◌≡◌, ℕ, suc, ◌+◌, ◌<◌, ◌≤◌, true, false, List, [], length, None, sym, ap, ◌∙◌, arith}
 use Rattle.model.specs.Bays.{Bay, Sound}
 use Rattle.model.specs.Targets.{target}
 use Rattle.model.specs.Moves.{settle}
-use Rattle.model.specs.Search.{Round, found, spent, over, deep, Outcome, fewest, at_least, no_way, searched, searched_within, rounds, next_round}
+use Rattle.model.specs.Search.{Round, found, over, deep, fewest, searched, searched_within, rounds, next_round}
 use Rattle.model.specs.Claims.{Honest}
 use Rattle.model.proofs.Depth.{same_deep}
 use Rattle.model.proofs.Loops.{whole_done}

@@ -1,14 +1,13 @@
 -- Where the loop of a round stands, and what the round comes to from there.
-use Rattle.std.proofs.Common.{◌≡◌, ℕ, zero, suc, ◌+◌, ◌<◌, ◌≤◌, Bool, true, false, cond, ◌≢◌, List, [], ◌∷◌, ◌++◌, map, length, Some, None, Option, sym, refl, ap, ◌∙◌, subst, append_assoc, append-nil, add-one, arith}
+use Rattle.std.proofs.Common.{◌≡◌, ℕ, suc, ◌+◌, ◌<◌, ◌≤◌, Bool, true, false, cond, ◌≢◌, List, [], ◌∷◌, ◌++◌, length, Some, None, sym, refl, ap, ◌∙◌, subst, append_assoc, append-nil, add-one, arith}
 use Rattle.std.proofs.lemmas.List.{map_push}
 use Rattle.bay.specs.declared.work.WorkBay.{WorkBay}
 use Rattle.bay.specs.Ask.{opens}
 use Rattle.bay.specs.Shown.{shown}
 use Rattle.model.specs.Bays.{Bay}
 use Rattle.model.specs.Targets.{target}
-use Rattle.model.specs.Moves.{stack_of}
 use Rattle.model.specs.Search.{ways, ways_at, next, Round, found, spent, over}
-use Rattle.model.proofs.Loops.{Level, path, remaining, unwind, along, whole_open, whole_done, loop_spent, loop_cut, loop_found, loop_deeper, loop_back, loop_over, remaining_end, remaining_more, remaining-all}
+use Rattle.model.proofs.Loops.{Level, path, remaining, unwind, along, whole_open, loop_spent, loop_cut, loop_found, loop_deeper, remaining_end, remaining_more, remaining-all}
 use Rattle.search.specs.declared.workspace.Frame.{Frame}
 use Rattle.search.specs.Rounds.{Aims, round_from}
 use Rattle.search.specs.Told.{framed}

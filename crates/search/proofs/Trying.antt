@@ -1,5 +1,5 @@
 -- A try: the bay after it, and what the bound says of it.
-use Rattle.std.proofs.Common.{◌≡◌, ℕ, ◌+◌, ◌<◌, ◌≤◌, Bool, true, false, cond, ◌&&◌, ltb, Some, None, sym, refl, ap, ◌∙◌, subst, arith}
+use Rattle.std.proofs.Common.{◌≡◌, ℕ, ◌<◌, ◌≤◌, Bool, true, cond, ltb, sym, ap, ◌∙◌, arith}
 use Rattle.std.proofs.lemmas.Bool.{lt-ltb, and_from}
 use Rattle.bay.specs.declared.work.WorkBay.{WorkBay}
 use Rattle.bay.specs.Ask.{height_at, opens, carries}
@@ -7,7 +7,6 @@ use Rattle.bay.specs.Shown.{shown}
 use Rattle.bay.proofs.Moving.{target_high}
 use Rattle.bay.proofs.Working.{work_sound}
 use Rattle.model.specs.Bays.{Bay, relocated}
-use Rattle.model.specs.Targets.{target}
 use Rattle.model.specs.Moves.{settle, stack_of}
 use Rattle.model.specs.Search.{next}
 use Rattle.model.specs.Claims.{Honest}

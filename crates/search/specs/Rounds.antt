@@ -1,5 +1,5 @@
 -- One round, as the code asks for it.
-use Rattle.std.specs.Prelude.{◌≡◌, ℕ, suc, false, Some, None}
+use Rattle.std.specs.Prelude.{◌≡◌, ℕ, suc, false, Some}
 use Rattle.model.specs.Bays.{Bay}
 use Rattle.model.specs.Targets.{target}
 use Rattle.model.specs.Search.{Round, Outcome, deep, rounds}

@@ -1,5 +1,5 @@
 -- What the answers of a search mean.
-use Rattle.std.specs.Prelude.{ℕ, List, [], ◌∷◌, map, vec_items}
+use Rattle.std.specs.Prelude.{ℕ, List, [], map, vec_items}
 use Rattle.model.specs.Search as model
 use Rattle.search.specs.declared.outcome.Kind.{Kind}
 use Rattle.search.specs.declared.outcome.Kind.TheVariants.{Fewest, AtLeast, NoWay}

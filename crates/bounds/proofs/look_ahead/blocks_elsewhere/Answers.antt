@@ -1,4 +1,4 @@
-use Rattle.std.proofs.Common.{◌≡◌, ℕ, suc, ◌+◌, sym, ap, ◌∙◌, add-one, arith}
+use Rattle.std.proofs.Common.{◌≡◌, ℕ, ◌+◌, sym, ap, ◌∙◌, add-one, arith}
 use Rattle.bay.specs.Shown.{shown}
 use Rattle.model.specs.Bays.{Bay, items_at, stack_at}
 use Rattle.model.specs.Targets.{lowest}

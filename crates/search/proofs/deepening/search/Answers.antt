@@ -1,13 +1,12 @@
-use Rattle.std.proofs.Common.{◌≡◌, ℕ, suc, ◌+◌, ◌-◌, ◌<◌, ◌≤◌, true, false, List, [], ◌∷◌, ◌++◌, length, vec_items, vec_len, sym, refl, ap, ◌∙◌, subst, add-one, arith, rules}
+use Rattle.std.proofs.Common.{◌≡◌, ℕ, suc, ◌+◌, ◌-◌, ◌<◌, ◌≤◌, true, false, List, length, vec_items, sym, refl, ap, ◌∙◌, add-one, arith, rules}
 use Rattle.std.proofs.lemmas.List.{length-map}
 use Rattle.bay.specs.Shown.{shown}
 use Rattle.bay.proofs.Working.{work_sound}
-use Rattle.model.specs.Search.{Outcome, searched, Round, found, spent, over, fewest, at_least, no_way}
-use Rattle.model.specs.Claims.{Promised}
+use Rattle.model.specs.Search.{Outcome, searched, found, spent, over, fewest, at_least, no_way}
 use Rattle.model.proofs.Outcomes.{promised}
 use Rattle.search.specs.declared.workspace.Frame.{Frame}
 use Rattle.search.specs.Rounds.{round_from, rounds_from}
-use Rattle.search.specs.Told.{framed, end_told, tries_of}
+use Rattle.search.specs.Told.{framed}
 use Rattle.search.proofs.Limits.{searched-rounds, rounds-step, searched_done, limit_under, plan_fits}
 use Rattle.search.proofs.Trying.{estimate_small}
 use Rattle.search.proofs.deepening.search.Goals as goal

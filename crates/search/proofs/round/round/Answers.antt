@@ -1,4 +1,4 @@
-use Rattle.std.proofs.Common.{◌≡◌, ℕ, ◌+◌, ◌<◌, ◌≤◌, true, false, List, [], ◌∷◌, ◌++◌, length, vec_items, vec_len, sym, refl, ap, ◌∙◌, subst, arith, rules}
+use Rattle.std.proofs.Common.{◌≡◌, ◌+◌, ◌≤◌, true, [], ◌∷◌, ◌++◌, length, vec_items, sym, ap, ◌∙◌, subst, arith, rules}
 use Rattle.std.proofs.lemmas.List.{length_push, nil_from_length}
 use Rattle.bay.specs.Ask.{opens}
 use Rattle.bay.specs.Shown.{shown}
@@ -7,8 +7,7 @@ use Rattle.model.specs.Search.{next, found}
 use Rattle.model.specs.Targets.{target}
 use Rattle.search.specs.Rounds.{Aims}
 use Rattle.search.specs.Told.{framed}
-use Rattle.search.specs.declared.workspace.Frame.{Frame}
-use Rattle.search.proofs.Standing.{standing, Fit, Held, Kept, from_start, standing_skip, standing_spent, standing_cut, standing_found, standing_deeper, standing_back, standing_over, kept_push, kept_pop}
+use Rattle.search.proofs.Standing.{standing, Kept, from_start, standing_skip, standing_spent, standing_cut, standing_found, standing_deeper, standing_back, standing_over, kept_push, kept_pop}
 use Rattle.search.proofs.Trying.{tried_is, estimate_small}
 use Rattle.search.proofs.round.round.Goals as goal
 use Rattle.search.proofs.round.round.Goals.{then-is_open+else-n-budget+then-limit-g, else-is_open}

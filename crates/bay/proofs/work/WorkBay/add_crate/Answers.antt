@@ -1,4 +1,4 @@
-use Rattle.std.proofs.Common.{sym, refl, ap, ◌∙◌, arith}
+use Rattle.std.proofs.Common.{arith}
 use Rattle.bay.proofs.Building.{free, newcomer, place_row, place_low}
 use Rattle.bay.proofs.work.WorkBay.add_crate.Goals as goal
 

@@ -1,4 +1,4 @@
-use Rattle.std.proofs.Common.{sym, refl, ap, ◌∙◌, subst, arith}
+use Rattle.std.proofs.Common.{refl, arith}
 use Rattle.bay.proofs.Flats.{eight_set}
 use Rattle.bay.proofs.Building.{stack_many, stack_high, stack_fine, stack_grows, stack_keeps}
 use Rattle.bay.proofs.work.WorkBay.add_stack.Goals as goal

@@ -1,4 +1,4 @@
-use Rattle.std.proofs.Common.{sym, refl, ap, ◌∙◌, arith}
+use Rattle.std.proofs.Common.{sym, refl}
 use Rattle.std.proofs.lemmas.Bool.{lt-ltb, le-ltb, ltb-true, ltb-false}
 use Rattle.bay.proofs.Tallies.{bay_more, bay_found, bay_none}
 use Rattle.bay.proofs.work.WorkBay.bears.Goals as goal

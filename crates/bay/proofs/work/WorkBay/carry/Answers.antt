@@ -1,5 +1,5 @@
 use Rattle.bay.proofs.Carrying.{carriage, rows_for}
-use Rattle.std.proofs.Common.{sym, ap, ◌∙◌}
+use Rattle.std.proofs.Common.{◌∙◌}
 use Rattle.bay.proofs.work.WorkBay.carry.Goals as goal
 
 pub shift_top-requires : goal.shift_top-requires

@@ -1,4 +1,4 @@
-use Rattle.std.proofs.Common.{sym, inl, inr, arith}
+use Rattle.std.proofs.Common.{inl, inr, arith}
 use Rattle.bay.proofs.Building.{fault_absent, fault_full, fault_zero, fault_crate, fault_call, fault_none}
 use Rattle.bay.proofs.Working.{there, absent, height_is}
 use Rattle.bay.proofs.work.WorkBay.crate_fault.Goals as goal

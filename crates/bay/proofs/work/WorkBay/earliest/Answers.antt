@@ -1,4 +1,4 @@
-use Rattle.std.proofs.Common.{◌≡◌, ℕ, ◌+◌, ◌<◌, ◌≤◌, min, List, [], ◌∷◌, length, drop, sym, refl, ap, ◌∙◌, arith}
+use Rattle.std.proofs.Common.{ap, ◌∙◌, arith}
 use Rattle.model.specs.Bays.{stack_at}
 use Rattle.bay.specs.Shown.{shown}
 use Rattle.bay.proofs.Asking.{earliest_of, earliest_is, earliest_cap, earliest_more, earliest_all}
@@ -10,11 +10,8 @@ loop-call-init c = (omega (arith, earliest_cap c.calls-call-items.result.now), o
 pub loop-call-preserved : goal.loop-call-preserved
 loop-call-preserved c =
     let ks = c.calls-call-items.result.now in
-    let i = c.loop-call.call-index in
-    let m = earliest_more ks i c.loop-call.low c.loop-call-test.true c.loop-call.invariant.0 in
-    let late = c.lateness_of.ensures in
-    let low = c.min-low.ensures in
-    (m ∙ ap (λ z. min z (earliest_of (drop (i + 1) ks))) (ap (λ z. min z c.loop-call.low) (sym late) ∙ sym low), omega (arith, low, c.loop-call.invariant.1))
+    let more = earliest_more ks c.loop-call.call-index c.loop-call.low c.loop-call-test.true c.loop-call.invariant.0 in
+    (omega (arith, more, c.lateness_of.ensures), omega arith)
 
 pub returns : goal.returns
 returns c =

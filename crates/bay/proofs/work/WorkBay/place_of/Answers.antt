@@ -1,4 +1,4 @@
-use Rattle.std.proofs.Common.{sym, ap, ◌∙◌, inl, inr, arith}
+use Rattle.std.proofs.Common.{inl, inr, arith}
 use Rattle.bay.proofs.Asking.{no_slot_lem, slot_there, slot_is}
 use Rattle.bay.proofs.work.WorkBay.place_of.Goals as goal
 use Rattle.bay.proofs.work.WorkBay.place_of.Goals.{then-tier-eq0-via-then-tier-eq0, then-tier-eq0-via-else-tier-eq0+then-tier-height}

@@ -1,6 +1,6 @@
-use Rattle.std.proofs.Common.{sym, refl, ap, ◌∙◌, inl, inr, arith}
+use Rattle.std.proofs.Common.{inl, inr, arith}
 use Rattle.bay.proofs.Carrying.{carriage, rows_for}
-use Rattle.bay.proofs.Moving.{target_high, target_row, relocated_so, not_relocated, nothing_told}
+use Rattle.bay.proofs.Moving.{target_high, target_row, relocated_so, not_relocated}
 use Rattle.bay.proofs.work.WorkBay.relocate.Goals as goal
 use Rattle.bay.proofs.work.WorkBay.relocate.Goals.{then-above-eq0-via-then-above-eq0, then-above-eq0-via-else-above-eq0+then-not-is_open}
 

@@ -1,5 +1,4 @@
-use Rattle.std.proofs.Common.{sym, refl, ap, ◌∙◌, arith}
-use Rattle.bay.proofs.Moving.{target_row, retrieved, not_retrieved, nothing_told}
+use Rattle.bay.proofs.Moving.{target_row}
 use Rattle.bay.proofs.work.WorkBay.retrieve.Goals as goal
 
 pub top-number-requires : goal.top-number-requires

@@ -1,4 +1,4 @@
-use Rattle.std.proofs.Common.{true, ltb, sym, refl, ap, ◌∙◌, arith}
+use Rattle.std.proofs.Common.{sym, refl}
 use Rattle.std.proofs.lemmas.Bool.{lt-ltb, le-ltb}
 use Rattle.bay.proofs.Tallies.{row_more, row_found, row_none}
 use Rattle.bay.proofs.work.WorkBay.row_bears.Goals as goal

@@ -1,4 +1,4 @@
-use Rattle.std.proofs.Common.{suc, ◌+◌, ◌-◌, ◌*◌, get_or, drop, sym, refl, ap, ◌∙◌}
+use Rattle.std.proofs.Common.{suc, ◌+◌, ◌-◌, get_or, drop, sym, refl, ap, ◌∙◌}
 use Rattle.model.specs.Bays.{items_at}
 use Rattle.model.specs.Targets.{scan_stack, better}
 use Rattle.bay.specs.Shown.{shown}

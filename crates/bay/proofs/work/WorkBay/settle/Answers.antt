@@ -1,6 +1,5 @@
-use Rattle.std.proofs.Common.{◌≡◌, ℕ, Some, None, Option, sym, refl, ap, ◌∙◌, subst, arith}
+use Rattle.std.proofs.Common.{◌≡◌, ℕ, Some, Option, sym, ap, ◌∙◌, arith}
 use Rattle.model.specs.Bays.{crates}
-use Rattle.model.specs.Targets.{target}
 use Rattle.model.specs.Moves.{settle}
 use Rattle.bay.specs.Shown.{shown}
 use Rattle.bay.proofs.Moving.{target_row, settle_on_lem, settle_fewer, settle_ends, settle_none}

@@ -1,4 +1,4 @@
-use Rattle.std.proofs.Common.{suc, ◌+◌, drop, sym, refl, ap, ◌∙◌, subst}
+use Rattle.std.proofs.Common.{suc, ◌+◌, drop, sym, ap, ◌∙◌, subst}
 use Rattle.model.specs.Targets.{scan_bay, TargetMeans}
 use Rattle.model.proofs.Targets.{target_means}
 use Rattle.bay.specs.Shown.{shown}

@@ -1,4 +1,4 @@
-use Rattle.std.proofs.Common.{◌≡◌, ℕ, suc, ◌+◌, List, length, sym, refl, ap, ◌∙◌, add-one, arith}
+use Rattle.std.proofs.Common.{◌≡◌, ℕ, suc, ◌+◌, List, length, ap, ◌∙◌, add-one, arith}
 use Rattle.bay.specs.Ask.{calls_at}
 use Rattle.bay.specs.Shown.{shown}
 use Rattle.model.specs.Bays.{Bay}

@@ -1,10 +1,8 @@
-use Rattle.std.proofs.Common.{◌≡◌, ℕ, suc, ◌+◌, ◌-◌, ◌*◌, ◌≤◌, map, length, take, drop, sym, ap, ◌∙◌, arith, rules}
-use Rattle.std.proofs.lemmas.List.{length-map, length-drop, take_rest}
-use Rattle.bay.specs.Ask.{height_at, calls_at}
+use Rattle.std.proofs.Common.{length, ap, ◌∙◌, arith, rules}
+use Rattle.std.proofs.lemmas.List.{length-map}
 use Rattle.bay.specs.Shown.{shown}
 use Rattle.bay.proofs.Working.{work_sound}
-use Rattle.model.specs.Bays.{Slot, stack_at, crates}
-use Rattle.model.specs.Bounds.{look_ahead}
+use Rattle.model.specs.Bays.{Slot, stack_at}
 use Rattle.model.proofs.LookAhead.{few_crates}
 use Rattle.bounds.proofs.Looking.{covers, few_above, covered, covered_length, looked, fewer, looked_all}
 use Rattle.bounds.proofs.look_ahead.LookAheadLowerBound.estimate.Goals as goal
