@@ -1,5 +1,5 @@
 -- Bays: stacks side by side, each with a clearance and what stands in it, bottom first.
-use Rattle.std.specs.Prelude.{◌≡◌, ℕ, zero, suc, ◌+◌, ◌-◌, ◌<◌, ◌≤◌, Bool, cond, ◌&&◌, ◌||◌, List, [], ◌∷◌, ◌++◌, length, get_or, take, ◌==◌, nat_le, nat_lt, slice_index_or, slice_set}
+use Rattle.std.specs.Prelude.{◌≡◌, ℕ, zero, suc, ◌+◌, ◌-◌, ◌<◌, ◌≤◌, Bool, cond, ◌&&◌, ◌||◌, List, [], ◌∷◌, ◌++◌, length, take, ◌==◌, nat_le, nat_lt, slice_index_or, slice_set}
 
 -- a crate number, and when two of them are the same
 abbrev pub CrateId : Type 0
@@ -41,7 +41,7 @@ stack_at b (suc i) = slice_index_or b i no_stack
 
 -- what stands at a place, counted from 0
 abbrev pub items_at : {X : Type 0} → BayOf X → ℕ → List X
-items_at b i = (get_or b i no_stack).items
+items_at b i = (slice_index_or b i no_stack).items
 
 abbrev pub is_there : {X : Type 0} → BayOf X → ℕ → Bool
 is_there b s = nat_lt 0 s && nat_le s (length b)
@@ -113,7 +113,7 @@ out_of_range x = one (x.crate == 0 || (nat_lt 4294967295 x.crate || nat_lt 65535
 pub record Sound (b : Bay) : Type 0 where
   pub few : length b ≤ 12
   pub heights : (i : ℕ) → length (items_at b i) ≤ 8
-  pub clearances : (i : ℕ) → (get_or b i no_stack).clearance ≤ 8
+  pub clearances : (i : ℕ) → (slice_index_or b i no_stack).clearance ≤ 8
   pub once : (c : CrateId) → tally (is_crate c) b ≤ 1
   pub apart : (k : ℕ) → 0 < k → tally (is_call k) b ≤ 1
   pub ranged : tally out_of_range b ≡ 0

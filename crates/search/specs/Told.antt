@@ -1,5 +1,5 @@
 -- What the answers of a search mean.
-use Rattle.std.specs.Prelude.{ℕ, List, [], map, vec_items}
+use Rattle.std.specs.Prelude.{ℕ, List, [], map}
 use Rattle.model.specs.Search as model
 use Rattle.search.specs.declared.outcome.Kind.{Kind}
 use Rattle.search.specs.declared.outcome.Kind.TheVariants.{Fewest, AtLeast, NoWay}
@@ -20,7 +20,7 @@ told o ds = (kind_told o.kind ds, o.tries)
 
 -- the destinations that a workspace holds after a search, and those that an outcome has
 abbrev pub plan_in : Workspace → List ℕ
-plan_in w = vec_items w.destinations
+plan_in w = w.destinations.items
 
 abbrev pub plan_of : model.Outcome → List ℕ
 plan_of (model.fewest n ds) = ds
