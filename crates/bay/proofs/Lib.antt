@@ -1,9 +1,6 @@
-pub mod Flats
-pub mod Working
-pub mod Tallies
+pub mod Slots
+pub mod Bays
 pub mod Building
-pub mod Changing
 pub mod Scanning
 pub mod Carrying
 pub mod Moving
-pub mod Asking

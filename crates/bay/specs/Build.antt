@@ -3,8 +3,6 @@ use Rattle.std.specs.Prelude.{◌≡◌, ℕ, ◌<◌, cond, not, ◌&&◌, [], 
 use Rattle.model.specs.Bays.{Bay, Slot, is_there, stack_at, tally, is_crate, is_call, out_of_range}
 use Rattle.bay.specs.declared.faults.BuildFault.{BuildFault}
 use Rattle.bay.specs.declared.faults.BuildFault.TheVariants.{TooManyStacks, ClearanceTooHigh, NoSuchStack, StackFull, CrateZero, CrateTwice, CallTwice}
-use Rattle.bay.specs.declared.faults.Label.{Label}
-use Rattle.bay.specs.declared.faults.Label.TheVariants.{Crate, Call}
 
 -- a stack more: at most twelve, with a clearance of at most eight
 abbrev pub stack_fault : Bay → ℕ → Option BuildFault
@@ -30,11 +28,6 @@ fault_of (Err f) = Some f
 abbrev pub unless : {X : Type 0} → Option BuildFault → X → X → X
 unless None new old = new
 unless (Some f) new old = old
-
--- a crate bears a crate number or a call number
-abbrev pub bearing : Label → Slot → ℕ
-bearing (Crate c) x = is_crate c x
-bearing (Call k) x = is_call k x
 
 -- a crate that stands nowhere in the bay, with a call number that nobody has
 pub record Newcomer (b : Bay) (x : Slot) : Type 0 where

@@ -1,6 +1,8 @@
-pub mod Flat
+pub mod Slots
+pub mod Stacks
 pub mod Shown
-pub mod Build
-pub mod Ask
+pub mod Label
 pub mod Target
+pub mod Ask
+pub mod Build
 pub mod Move

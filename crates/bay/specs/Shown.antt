@@ -1,7 +1,7 @@
 -- The bay that a working bay means.
 use Rattle.model.specs.Bays.{Bay}
 use Rattle.bay.specs.declared.work.WorkBay.{WorkBay}
-use Rattle.bay.specs.Flat.{flat}
+use Rattle.bay.specs.Stacks.{bay_of}
 
 abbrev pub shown : WorkBay → Bay
-shown w = flat w.stacks w.clearances w.heights w.crates w.calls
+shown w = bay_of w.count w.stacks

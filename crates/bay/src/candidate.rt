@@ -1,5 +1,5 @@
-ghost use Rattle.std.specs.Prelude.{◌≡◌, ◌≤◌};
-ghost use Rattle.model.specs.Targets.{lateness, nobody, better};
+ghost use Rattle.std.specs.Prelude.{◌≡◌};
+ghost use Rattle.model.specs.Targets.{nobody, better};
 ghost use Rattle.bay.specs.Target.{best_shown};
 
 // The crate that goes first among those seen: how late it is called, how many crates stand above it, its stack.
@@ -8,13 +8,6 @@ pub struct Best {
     pub late: u32,
     pub above: u8,
     pub stack: u8,
-}
-
-// How late a call number is; an uncalled crate is later than every call.
-pub fn lateness_of(call: u16) -> u32
-    ensures { result ≡ lateness call }
-{
-    if call == 0 { 65536 } else { call as u32 }
 }
 
 impl Best {
@@ -32,7 +25,7 @@ impl Best {
     pub fn better(self, other: Best) -> Best
         ensures { best_shown result ≡ better (best_shown self) (best_shown other) }
     {
-        if other.late < self.late || (other.late == self.late && other.above < self.above) {
+        if (other.late, other.above) < (self.late, self.above) {
             other
         } else {
             self

@@ -2,4 +2,6 @@
 
 pub mod candidate;
 pub mod faults;
+pub mod slot;
+pub mod stack;
 pub mod work;

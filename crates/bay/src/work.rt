@@ -1,26 +1,23 @@
-ghost use Rattle.std.specs.Prelude.{◌≤◌};
-ghost use Rattle.bay.specs.Flat.{flat, UpToEight, CratesOnce, CallsApart, InRange};
+ghost use Rattle.std.specs.Prelude.{◌≡◌, ◌≤◌, length};
+ghost use Rattle.bay.specs.Stacks.{bay_of, CratesOnce, CallsApart, InRange};
+
+use crate::stack::Stack;
 
 mod ask;
 mod build;
 mod change;
 mod find;
-mod labels;
 mod moves;
 
-// The bay that a search works on: flat arrays of twelve rows of eight places, so that a copy is one block.
+// The bay that a search works on: flat, with no memory of its own elsewhere, so that a copy is one block.
 // Every value is a sound bay.
 #[derive(Clone, Copy)]
 pub struct WorkBay {
-    stacks: u8,
-    clearances: [u8; 12],
-    heights: [u8; 12],
-    crates: [u32; 96],
-    calls: [u16; 96],
-    ghost few: { stacks ≤ 12 },
-    ghost cleared: { UpToEight clearances },
-    ghost tall: { UpToEight heights },
-    ghost once: { CratesOnce (flat stacks clearances heights crates calls) },
-    ghost apart: { CallsApart (flat stacks clearances heights crates calls) },
-    ghost ranged: { InRange (flat stacks clearances heights crates calls) },
+    count: u8,
+    stacks: [Stack; 12],
+    ghost few: { count ≤ 12 },
+    ghost whole: { length stacks ≡ 12 },
+    ghost once: { CratesOnce (bay_of count stacks) },
+    ghost apart: { CallsApart (bay_of count stacks) },
+    ghost ranged: { InRange (bay_of count stacks) },
 }

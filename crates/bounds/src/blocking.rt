@@ -1,26 +1,25 @@
-ghost use Rattle.std.specs.Prelude.{◌≡◌, ◌≤◌, length};
-ghost use Rattle.bounds.specs.Calls.{blockers_in};
-ghost use Rattle.model.specs.Bounds.{blocking};
+ghost use Rattle.std.specs.Prelude.{◌≡◌, ◌≤◌};
+ghost use Rattle.bay.specs.Stacks.{stack_shown};
+ghost use Rattle.model.specs.Bounds.{blockers as blocking_in, blocking};
 ghost use Rattle.model.proofs.LookAhead.{blocking_is_honest};
 
 use crate::bound::LowerBound;
-use bay::candidate::lateness_of;
+use bay::stack::Stack;
 use bay::work::WorkBay;
 
 // The number of crates that stand above an earlier-called crate of their stack. Each has to be relocated at least once.
 #[derive(Clone, Copy)]
 pub struct BlockingCount;
 
-// The crates of one stack with an earlier-called one anywhere below, from its call numbers, bottom first.
-fn blockers(calls: &[u16]) -> u16
-    requires { length calls.now ≤ 8 }
-    ensures value { result ≡ blockers_in 65536 calls.now }
+// The crates of one stack with an earlier-called one anywhere below.
+fn blockers(stack: &Stack) -> u16
+    ensures value { result ≡ blocking_in 65536 (stack_shown stack.now).items }
     ensures small { result ≤ 8 }
 {
     let mut count = 0;
     let mut earliest = 65536;
-    for call in calls {
-        let late = lateness_of(*call);
+    for slot in stack.slots() {
+        let late = slot.lateness();
         if earliest < late {
             count += 1;
         } else {
@@ -37,8 +36,8 @@ impl LowerBound for BlockingCount {
 
     fn estimate(&self, bay: &WorkBay) -> u16 {
         let mut count = 0;
-        for row in 0..bay.stacks() {
-            count += blockers(bay.calls(row + 1));
+        for stack in bay.stacks() {
+            count += blockers(stack);
         }
         count
     }

@@ -1,12 +1,13 @@
-ghost use Rattle.std.specs.Prelude.{◌≡◌, ◌*◌, ◌≤◌, length};
+ghost use Rattle.std.specs.Prelude.{◌≡◌, ◌*◌, ◌≤◌, map, length};
 ghost use Rattle.bay.specs.Shown.{shown};
+ghost use Rattle.bay.specs.Slots.{slot_shown};
 ghost use Rattle.model.specs.Bays.{tally_in};
-ghost use Rattle.model.specs.Bounds.{elsewhere, look_ahead};
-ghost use Rattle.bounds.specs.Calls.{weight_by};
+ghost use Rattle.model.specs.Bounds.{elsewhere, weight, look_ahead};
+ghost use Rattle.model.specs.Targets.{lateness};
 ghost use Rattle.model.proofs.LookAhead.{look_ahead_honest};
 
 use crate::bound::LowerBound;
-use bay::candidate::lateness_of;
+use bay::slot::Slot;
 use bay::work::WorkBay;
 
 // Looks ahead on a copy of the bay: target after target leaves with all above it. Each crate above counts one, and one
@@ -14,30 +15,31 @@ use bay::work::WorkBay;
 #[derive(Clone, Copy)]
 pub struct LookAhead;
 
-// Whether every stack other than `s` holds a crate that is called earlier.
-fn blocks_elsewhere(bay: &WorkBay, s: u8, late: u32) -> bool
-    ensures { result ≡ elsewhere late s 1 (shown bay.now) }
+// Whether every stack other than `s` holds a crate that is called earlier than this one.
+fn blocks_elsewhere(bay: &WorkBay, s: u8, slot: Slot) -> bool
+    ensures { result ≡ elsewhere (lateness (slot_shown slot).call) s 1 (shown bay.now) }
 {
-    for row in 0..bay.stacks() {
-        if row + 1 != s && bay.earliest(row + 1) >= late {
+    for (row, stack) in bay.stacks().iter().enumerate() {
+        if row + 1 != usize::from(s) && !stack.has_earlier(slot) {
             return false;
         }
     }
     true
 }
 
-// What crates of stack `s` with these calls count.
-fn weigh(bay: &WorkBay, s: u8, calls: &[u16]) -> u16
-    requires { length calls.now ≤ 8 }
-    ensures value { result ≡ tally_in (weight_by (shown bay.now) s) calls.now }
-    ensures small { result ≤ 2 * length calls.now }
+// What some crates of stack `s` count.
+fn weigh(bay: &WorkBay, s: u8, slots: &[Slot]) -> u16
+    requires { length slots.now ≤ 8 }
+    ensures value { result ≡ tally_in (weight (shown bay.now) s) (map slot_shown slots.now) }
+    ensures small { result ≤ 2 * length slots.now }
 {
     let mut count = 0;
-    for call in calls {
-        count += 1;
-        if blocks_elsewhere(bay, s, lateness_of(*call)) {
-            count += 1;
-        }
+    for slot in slots {
+        count += if blocks_elsewhere(bay, s, *slot) {
+            2
+        } else {
+            1
+        };
     }
     count
 }
@@ -51,9 +53,9 @@ impl LowerBound for LookAhead {
         let mut copy = *bay;
         let mut count = 0;
         while let Some((s, above)) = copy.target() {
-            let calls = copy.calls(s);
-            let start = calls.len() - above as usize;
-            count += weigh(&copy, s, &calls[start..]);
+            let slots = copy.slots(s);
+            let start = slots.len() - usize::from(above);
+            count += weigh(&copy, s, &slots[start..]);
             copy.take_off(s, above + 1);
         }
         count

@@ -4,6 +4,7 @@ mod every;
 mod small;
 
 use anyhow::anyhow;
+use bay::slot::Slot;
 use bay::work::WorkBay;
 use bounds::blocking::BlockingCount;
 use bounds::bound::LowerBound;
@@ -78,8 +79,17 @@ fn build(small: &Small) -> Option<WorkBay> {
             let call = CallNumber {
                 number: small.calls[stack][tier] as u16,
             };
-            let s = bay.stacks();
-            if bay.add_crate(s, CrateNumber { number }, call).is_err() {
+            let s = bay.count();
+            if bay
+                .add_crate(
+                    s,
+                    Slot {
+                        number: CrateNumber { number },
+                        call,
+                    },
+                )
+                .is_err()
+            {
                 return None;
             }
         }

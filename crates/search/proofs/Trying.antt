@@ -5,7 +5,7 @@ use Rattle.bay.specs.declared.work.WorkBay.{WorkBay}
 use Rattle.bay.specs.Ask.{height_at, opens, carries}
 use Rattle.bay.specs.Shown.{shown}
 use Rattle.bay.proofs.Moving.{target_high}
-use Rattle.bay.proofs.Working.{work_sound}
+use Rattle.bay.proofs.Bays.{work_sound}
 use Rattle.model.specs.Bays.{Bay, relocated}
 use Rattle.model.specs.Moves.{settle, stack_of}
 use Rattle.model.specs.Search.{next}
@@ -17,7 +17,7 @@ pub tried_is : (w v u : WorkBay) (s d : ℕ) (r : Bool) → Aims (shown w) s →
     → shown v ≡ cond r (relocated (shown w) s d) (shown w) → shown u ≡ settle (shown v) → shown u ≡ next (shown w) d
 unfolding next
 tried_is w v u s d r a o e q p =
-    let high : 0 < height_at (shown w) s = target_high w s a.above (sym a.is) in
+    let high : 0 < height_at (shown w) s = target_high (shown w) s a.above (sym a.is) in
     let so : r ≡ true = e ∙ and_from (ltb 0 (height_at (shown w) s)) (opens (shown w) s d) (lt-ltb 0 (height_at (shown w) s) high) o in
     p ∙ ap settle (q ∙ ap (λ t. cond t (relocated (shown w) s d) (shown w)) so) ∙ ap (λ z. settle (relocated (shown w) z d)) (sym (ap stack_of a.is))
 

@@ -34,7 +34,7 @@ pub(crate) fn round<B: LowerBound>(
     let mut cut = false;
     let mut n = tries;
     'depth: loop {
-        let stacks = here.stacks();
+        let stacks = here.count();
         'destination: while d <= stacks {
             if here.is_open(s, d) {
                 if n == budget {

@@ -17,8 +17,9 @@ struct Place<'a> {
 
 impl fmt::Display for Place<'_> {
     fn fmt<W: fmt::Write>(&self, f: &mut fmt::Formatter<W>) -> fmt::Result {
-        let c = self.bay.crate_at(self.stack, self.tier).number;
-        let k = self.bay.call_at(self.stack, self.tier).number;
+        let slot = self.bay.slot_at(self.stack, self.tier);
+        let c = slot.number.number;
+        let k = slot.call.number;
         if c == 0 {
             write!(f, "{:18}|", "")
         } else if k == 0 {
@@ -39,7 +40,7 @@ impl fmt::Display for Tier<'_> {
     fn fmt<W: fmt::Write>(&self, f: &mut fmt::Formatter<W>) -> fmt::Result {
         let tier = self.tier;
         write!(f, "  tier {tier} |")?;
-        for s in 0..self.bay.stacks() {
+        for s in 0..self.bay.count() {
             write!(
                 f,
                 "{}",
@@ -62,11 +63,11 @@ struct Floor<'a> {
 
 impl fmt::Display for Floor<'_> {
     fn fmt<W: fmt::Write>(&self, f: &mut fmt::Formatter<W>) -> fmt::Result {
-        if self.bay.stacks() == 0 {
+        if self.bay.count() == 0 {
             return writeln!(f, "  (no stacks)");
         }
         write!(f, "         ")?;
-        for s in 0..self.bay.stacks() {
+        for s in 0..self.bay.count() {
             let stack = s.saturating_add(1);
             let clearance = self.bay.clearance(stack);
             write!(f, "  stack {stack:<2} clear {clearance}")?;
@@ -78,7 +79,7 @@ impl fmt::Display for Floor<'_> {
 // The highest tier at which a crate stands.
 fn highest(bay: &WorkBay) -> u8 {
     let mut most = 0;
-    for s in 0..bay.stacks() {
+    for s in 0..bay.count() {
         most = bay.height(s.saturating_add(1)).max(most);
     }
     most

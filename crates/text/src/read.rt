@@ -2,6 +2,7 @@ ghost use Rattle.std.specs.Prelude.{◌<◌, IfOk, vec_len};
 
 use crate::fault::{ReadFault, Reason, TextFault};
 use crate::request::{BoundChoice, Request};
+use bay::slot::Slot;
 use bay::work::WorkBay;
 use model::numbers::{CallNumber, CrateNumber};
 use std::alloc::Global;
@@ -38,8 +39,8 @@ fn read_stack_word(bay: &mut WorkBay, place: usize, word: &str) -> Result<(), Re
         };
     }
     let (c, k) = read_crate(word)?;
-    let s = bay.stacks();
-    match bay.add_crate(s, c, k) {
+    let s = bay.count();
+    match bay.add_crate(s, Slot { number: c, call: k }) {
         Ok(()) => Ok(()),
         Err(fault) => Err(Reason::Build(fault)),
     }

@@ -1,3 +1,4 @@
+use bay::slot::Slot;
 use bay::work::WorkBay;
 use bounds::blocking::BlockingCount;
 use bounds::bound::LowerBound;
@@ -29,8 +30,14 @@ fn fill(bay: &mut WorkBay, last: u32, calls: &[u16]) -> Result<u32, Fail> {
     let mut number = last;
     for call in calls {
         number = number.saturating_add(1);
-        let s = bay.stacks();
-        let added = bay.add_crate(s, CrateNumber { number }, CallNumber { number: *call });
+        let s = bay.count();
+        let added = bay.add_crate(
+            s,
+            Slot {
+                number: CrateNumber { number },
+                call: CallNumber { number: *call },
+            },
+        );
         check(added.is_ok(), "a crate more")?;
     }
     Ok(number)

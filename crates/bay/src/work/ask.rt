@@ -1,100 +1,86 @@
-ghost use Rattle.std.specs.Prelude.{◌≡◌, ◌<◌, length, MatchOption};
-ghost use Rattle.model.specs.Bays.{no_slot, stack_at};
-ghost use Rattle.model.specs.Targets.{lowest};
-ghost use Rattle.bay.specs.Ask.{height_at, slot_in, calls_at, opens};
-ghost use Rattle.bay.specs.Flat.{slot_by};
+ghost use Rattle.std.specs.Prelude.{◌≡◌, ◌<◌, ◌≤◌, suc, true, false, length, map, MatchOption};
+ghost use Rattle.model.specs.Bays.{is_there, stack_at, top_slot};
+ghost use Rattle.bay.specs.Ask.{height_at, slot_in, opens};
 ghost use Rattle.bay.specs.Shown.{shown};
+ghost use Rattle.bay.specs.Slots.{slot_shown};
+ghost use Rattle.bay.specs.Stacks.{stack_shown};
 
-use crate::candidate::lateness_of;
+use crate::slot::Slot;
+use crate::stack::Stack;
 use crate::work::WorkBay;
-use model::numbers::{CallNumber, CrateNumber};
 
 impl WorkBay {
-    pub fn stacks(&self) -> u8
+    // The number of stacks.
+    pub fn count(&self) -> u8
         ensures { result ≡ length (shown self.now) }
     {
-        self.stacks
+        self.count
+    }
+
+    // The stacks, from the first on.
+    pub fn stacks(&self) -> &[Stack]
+        ensures value { map stack_shown result.now ≡ shown self.now }
+        ensures few { length result.now ≤ 12 }
+    {
+        &self.stacks[..usize::from(self.count)]
+    }
+
+    // The place of a stack among the stacks; none of a number that no stack has.
+    pub(super) fn row(&self, s: u8) -> Option<usize>
+        ensures { MatchOption result (is_there (shown self.now) s ≡ false) (λ i. (i < self.now.count) × (suc i ≡ s)) }
+    {
+        if s == 0 || s > self.count {
+            return None;
+        }
+        Some(usize::from(s) - 1)
+    }
+
+    // The stack of a number; none where no stack has it.
+    pub(super) fn stack(&self, s: u8) -> Option<&Stack>
+        ensures { MatchOption result (is_there (shown self.now) s ≡ false) (λ t. (is_there (shown self.now) s ≡ true) × (stack_shown t.now ≡ stack_at (shown self.now) s)) }
+    {
+        let row = self.row(s)?;
+        Some(&self.stacks[row])
     }
 
     pub fn clearance(&self, s: u8) -> u8
         ensures { result ≡ (stack_at (shown self.now) s).clearance }
     {
-        if s == 0 || s > self.stacks {
-            return 0;
-        }
-        self.clearances[s as usize - 1]
+        self.stack(s).map_or(0, |stack| stack.clearance())
     }
 
     pub fn height(&self, s: u8) -> u8
         ensures { result ≡ height_at (shown self.now) s }
     {
-        if s == 0 || s > self.stacks {
-            return 0;
-        }
-        self.heights[s as usize - 1]
+        self.stack(s).map_or(0, |stack| stack.height())
     }
 
-    // The call numbers of a stack, bottom first; zero is uncalled.
-    pub fn calls(&self, s: u8) -> &[u16]
-        ensures { result.now ≡ calls_at (shown self.now) s }
+    // The crates of a stack, bottom first; none where no stack is.
+    pub fn slots(&self, s: u8) -> &[Slot]
+        ensures { map slot_shown result.now ≡ (stack_at (shown self.now) s).items }
     {
-        if s == 0 || s > self.stacks {
-            return &[];
-        }
-        let start = 8 * (s as usize - 1);
-        &self.calls[start..start + self.heights[s as usize - 1] as usize]
+        self.stack(s).map_or(&[], |stack| stack.slots())
     }
 
-    // The lateness of the earliest crate of a stack; that of an uncalled crate if none is called.
-    pub fn earliest(&self, s: u8) -> u32
-        ensures { result ≡ lowest (stack_at (shown self.now) s).items }
+    // The crate on top of a stack; none where none stands.
+    pub(super) fn top(&self, s: u8) -> Option<Slot>
+        ensures { MatchOption result (height_at (shown self.now) s ≡ 0) (λ x. (0 < height_at (shown self.now) s) × (slot_shown x ≡ top_slot (stack_at (shown self.now) s).items)) }
     {
-        let mut low = 65536;
-        for call in self.calls(s) {
-            low = lateness_of(*call).min(low);
-        }
-        low
+        self.stack(s)?.top()
+    }
+
+    // The crate at a tier, counted from 1 at the bottom; zero in both numbers where none stands.
+    pub fn slot_at(&self, s: u8, tier: u8) -> Slot
+        ensures { slot_shown result ≡ slot_in (shown self.now) s tier }
+    {
+        self.stack(s)
+            .map_or(Slot::empty(), |stack| stack.slot(tier))
     }
 
     // Whether a crate of stack `from` may go to stack `to`.
     pub fn is_open(&self, from: u8, to: u8) -> bool
         ensures { result ≡ opens (shown self.now) from to }
     {
-        from != to && self.height(to) < self.clearance(to)
-    }
-
-    // Where the crate at a tier, counted from 1 at the bottom, is stored; none where no crate stands.
-    fn place_of(&self, s: u8, tier: u8) -> Option<usize>
-        ensures { MatchOption result (slot_in (shown self.now) s tier ≡ no_slot) (λ p. (p < 96) × (slot_in (shown self.now) s tier ≡ slot_by self.now.crates self.now.calls p)) }
-    {
-        if tier == 0 || tier > self.height(s) {
-            return None;
-        }
-        let row = s as usize - 1;
-        Some(8 * row + (tier as usize - 1))
-    }
-
-    // The crate at a tier; zero where none stands.
-    pub fn crate_at(&self, s: u8, tier: u8) -> CrateNumber
-        ensures { result.number ≡ (slot_in (shown self.now) s tier).crate }
-    {
-        match self.place_of(s, tier) {
-            None => CrateNumber { number: 0 },
-            Some(place) => CrateNumber {
-                number: self.crates[place],
-            },
-        }
-    }
-
-    // The call number of the crate at a tier; zero where none stands, or where it is uncalled.
-    pub fn call_at(&self, s: u8, tier: u8) -> CallNumber
-        ensures { result.number ≡ (slot_in (shown self.now) s tier).call }
-    {
-        match self.place_of(s, tier) {
-            None => CallNumber { number: 0 },
-            Some(place) => CallNumber {
-                number: self.calls[place],
-            },
-        }
+        from != to && self.stack(to).is_some_and(|stack| stack.has_space())
     }
 }

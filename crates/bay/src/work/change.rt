@@ -1,68 +1,51 @@
-ghost use Rattle.std.specs.Prelude.{◌≡◌, suc, ◌-◌, ◌<◌, ◌≢◌, take, slice_index};
-ghost use Rattle.model.specs.Bays.{items_at, stack_at, changed, top_slot, taken_from, put_on, relocated};
+ghost use Rattle.std.specs.Prelude.{◌≡◌, ◌-◌, ◌<◌, suc, true, map, length, take};
+ghost use Rattle.model.specs.Bays.{is_there, items_at, stack_at, changed, put_on};
 ghost use Rattle.bay.specs.Ask.{height_at};
 ghost use Rattle.bay.specs.Build.{Newcomer};
 ghost use Rattle.bay.specs.Shown.{shown};
+ghost use Rattle.bay.specs.Slots.{slot_shown};
+ghost use Rattle.bay.specs.Stacks.{stack_shown};
 
+use crate::slot::Slot;
+use crate::stack::Stack;
 use crate::work::WorkBay;
 
-// Changes of single rows, counted from 0.
+// Puts a crate on top of one of some stacks.
+fn put_on(stacks: &mut [Stack], row: usize, slot: Slot)
+    requires inside { row < length stacks.old }
+    requires low { length (items_at (map stack_shown stacks.old) row) < 8 }
+    ensures { map stack_shown stacks.new ≡ put_on (map stack_shown stacks.old) (suc row) (slot_shown slot) }
+{
+    stacks[row].put(slot);
+}
+
+// Takes so many crates off the top of one of some stacks, or all that stand there.
+fn take_from(stacks: &mut [Stack], row: usize, crates: u8)
+    requires { row < length stacks.old }
+    ensures { map stack_shown stacks.new ≡ changed (map stack_shown stacks.old) (suc row) (take (length (items_at (map stack_shown stacks.old) row) - crates) (items_at (map stack_shown stacks.old) row)) }
+{
+    stacks[row].take_off(crates);
+}
+
 impl WorkBay {
-    // The crate number and the call number on top of a row.
-    pub(super) fn top(&self, row: usize) -> (u32, u16)
-        requires inside { row < self.now.stacks }
-        requires some { 0 < slice_index self.now.heights row }
-        ensures { record { crate = result.0; call = result.1 } ≡ top_slot (items_at (shown self.now) row) }
+    // Puts a crate that is new to the bay on top of a stack.
+    pub(super) fn put(&mut self, s: u8, slot: Slot)
+        requires there { is_there (shown self.old) s ≡ true }
+        requires low { height_at (shown self.old) s < 8 }
+        requires new { Newcomer (shown self.old) (slot_shown slot) }
+        ensures { shown self.new ≡ put_on (shown self.old) s (slot_shown slot) }
     {
-        let place = 8 * row + self.heights[row] as usize - 1;
-        (self.crates[place], self.calls[place])
+        if let Some(row) = self.row(s) {
+            put_on(&mut self.stacks, row, slot);
+        }
     }
 
-    // Lays a crate that is new to the bay on top of a row.
-    pub(super) fn lay(&mut self, row: usize, c: u32, k: u16)
-        requires inside { row < self.old.stacks }
-        requires low { slice_index self.old.heights row < 8 }
-        requires new { Newcomer (shown self.old) (record { crate = c; call = k }) }
-        ensures { shown self.new ≡ put_on (shown self.old) (suc row) (record { crate = c; call = k }) }
-    {
-        let tier = self.heights[row];
-        let place = 8 * row + tier as usize;
-        self.crates[place] = c;
-        self.calls[place] = k;
-        self.heights[row] = tier + 1;
-    }
-
-    // Takes the top crate off a row.
-    pub(super) fn lift(&mut self, row: usize)
-        requires inside { row < self.old.stacks }
-        requires some { 0 < slice_index self.old.heights row }
-        ensures { shown self.new ≡ taken_from (shown self.old) (suc row) }
-    {
-        self.heights[row] -= 1;
-    }
-
-    // Takes the top crate of one row to another.
-    pub(super) fn shift_top(&mut self, from: usize, to: usize)
-        requires leaves { from < self.old.stacks }
-        requires enters { to < self.old.stacks }
-        requires other { from ≢ to }
-        requires some { 0 < slice_index self.old.heights from }
-        requires low { slice_index self.old.heights to < 8 }
-        ensures { shown self.new ≡ relocated (shown self.old) (suc from) (suc to) }
-    {
-        let (c, k) = self.top(from);
-        self.lift(from);
-        self.lay(to, c, k);
-    }
-
-    // Takes the top crates off a stack: so many, or all that stand there.
+    // Takes so many crates off the top of a stack, or all that stand there.
     pub fn take_off(&mut self, s: u8, crates: u8)
         ensures { shown self.new ≡ changed (shown self.old) s (take (height_at (shown self.old) s - crates) (stack_at (shown self.old) s).items) }
     {
-        if s == 0 || s > self.stacks {
-            return;
+        if let Some(row) = self.row(s) {
+            take_from(&mut self.stacks, row, crates);
         }
-        let row = s as usize - 1;
-        self.heights[row] = self.heights[row].saturating_sub(crates);
     }
 }

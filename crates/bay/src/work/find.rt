@@ -1,44 +1,34 @@
-ghost use Rattle.std.specs.Prelude.{◌≡◌, suc, ◌<◌};
-ghost use Rattle.model.specs.Bays.{items_at};
-ghost use Rattle.model.specs.Targets.{scan_stack, target, TargetMeans};
-ghost use Rattle.bay.specs.Target.{best_shown};
+ghost use Rattle.std.specs.Prelude.{◌≡◌, nat_lt};
+ghost use Rattle.model.specs.Bays.{tally};
+ghost use Rattle.model.specs.Targets.{target, TargetMeans};
+ghost use Rattle.bay.specs.Label.{bearing};
 ghost use Rattle.bay.specs.Shown.{shown};
 
-use crate::candidate::{Best, lateness_of};
+use crate::candidate::Best;
+use crate::faults::Label;
 use crate::work::WorkBay;
 
 impl WorkBay {
-    // The best so far, after the crates of one row from the bottom up.
-    fn scan_row(&self, row: u8, start: Best) -> Best
-        requires { row < self.now.stacks }
-        ensures { best_shown result ≡ scan_stack (best_shown start) (suc row) (items_at (shown self.now) row) }
-    {
-        let height = self.heights[row as usize];
-        let mut best = start;
-        for t in 0..height {
-            let late = lateness_of(self.calls[8 * row as usize + t as usize]);
-            best = best.better(Best {
-                late,
-                above: height - 1 - t,
-                stack: row + 1,
-            });
-        }
-        best
-    }
-
     // The stack of the target and the number of crates above it, or none if no crate is called.
     pub fn target(&self) -> Option<(u8, u8)>
         ensures value { result ≡ target (shown self.now) }
         ensures means { TargetMeans (shown self.now) result }
     {
         let mut best = Best::nobody();
-        for row in 0..self.stacks {
-            best = self.scan_row(row, best);
+        for (row, stack) in self.stacks().iter().enumerate() {
+            best = stack.best(row as u8 + 1, best);
         }
         if best.late < 65536 {
             Some((best.stack, best.above))
         } else {
             None
         }
+    }
+
+    // Whether a crate of the bay bears the label.
+    pub fn bears(&self, label: Label) -> bool
+        ensures { result ≡ nat_lt 0 (tally (bearing label) (shown self.now)) }
+    {
+        self.stacks().iter().any(|stack| stack.bears(label))
     }
 }

@@ -15,10 +15,14 @@ impl WorkBay {
         ensures says { result ≡ carries (shown self.old) from to }
         ensures after { shown self.new ≡ (if result then relocated (shown self.old) from to else shown self.old) }
     {
-        if self.height(from) == 0 || !self.is_open(from, to) {
+        let Some(slot) = self.top(from) else {
+            return false;
+        };
+        if !self.is_open(from, to) {
             return false;
         }
-        self.shift_top(from as usize - 1, to as usize - 1);
+        self.take_off(from, 1);
+        self.put(to, slot);
         true
     }
 
@@ -30,10 +34,9 @@ impl WorkBay {
         if above > 0 {
             return None;
         }
-        let row = s as usize - 1;
-        let (number, _) = self.top(row);
-        self.lift(row);
-        Some((CrateNumber { number }, s))
+        let slot = self.top(s)?;
+        self.take_off(s, 1);
+        Some((slot.number, s))
     }
 
     // Carries the top crate of the target's stack to another if that is legal, and tells its number and the stack it left.
@@ -41,13 +44,11 @@ impl WorkBay {
         ensures { MoveTold (shown self.old) (relocating to) (shown self.new) result }
     {
         let (s, above) = self.target()?;
-        if above == 0 || !self.is_open(s, to) {
+        if above == 0 {
             return None;
         }
-        let row = s as usize - 1;
-        let (number, _) = self.top(row);
-        self.shift_top(row, to as usize - 1);
-        Some((CrateNumber { number }, s))
+        let slot = self.top(s)?;
+        self.carry(s, to).then_some((slot.number, s))
     }
 
     // Hands out targets while the target is on top, and tells the target that is left, as the target finder does.
@@ -55,14 +56,12 @@ impl WorkBay {
         ensures after { shown self.new ≡ settle (shown self.old) }
         ensures value { result ≡ target (shown self.new) }
     {
-        loop {
-            let Some((s, above)) = self.target() else {
-                return None;
-            };
+        while let Some((source, above)) = self.target() {
             if above > 0 {
-                return Some((s, above));
+                return Some((source, above));
             }
-            self.lift(s as usize - 1);
+            self.take_off(source, 1);
         }
+        None
     }
 }

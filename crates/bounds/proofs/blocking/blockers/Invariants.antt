@@ -1,9 +1,10 @@
-use Rattle.std.proofs.Common.{◌≡◌, ◌+◌, ◌≤◌, drop}
-use Rattle.bounds.specs.Calls.{blockers_in}
+use Rattle.std.proofs.Common.{◌≡◌, ◌+◌, ◌≤◌, map, drop}
+use Rattle.model.specs.Bounds.{blockers}
+use Rattle.bay.specs.Slots.{slot_shown}
 use Rattle.bounds.proofs.blocking.blockers.Given as goal
 
 -- what is counted, and what is left to count
-abbrev pub invariant-loop-call : goal.invariant-loop-call
-invariant-loop-call l =
-    (blockers_in 65536 l.calls ≡ l.count + blockers_in l.earliest (drop l.call-index l.calls))
-    × (l.count ≤ l.call-index)
+abbrev pub invariant-loop-slot : goal.invariant-loop-slot
+invariant-loop-slot l =
+    (blockers 65536 (map slot_shown l.slot-items) ≡ l.count + blockers l.earliest (map slot_shown (drop l.slot-index l.slot-items)))
+    × (l.count ≤ l.slot-index)

@@ -1,11 +1,12 @@
-use Rattle.std.proofs.Common.{◌≡◌, ◌+◌, ◌*◌, ◌≤◌, drop}
+use Rattle.std.proofs.Common.{◌≡◌, ◌+◌, ◌*◌, ◌≤◌, map, drop}
 use Rattle.bay.specs.Shown.{shown}
+use Rattle.bay.specs.Slots.{slot_shown}
 use Rattle.model.specs.Bays.{tally_in}
-use Rattle.bounds.specs.Calls.{weight_by}
+use Rattle.model.specs.Bounds.{weight}
 use Rattle.bounds.proofs.look_ahead.weigh.Given as goal
 
 -- what is counted, and what is left to count
-abbrev pub invariant-loop-call : goal.invariant-loop-call
-invariant-loop-call l =
-    (tally_in (weight_by (shown l.bay) l.s) l.calls ≡ l.count + tally_in (weight_by (shown l.bay) l.s) (drop l.call-index l.calls))
-    × (l.count ≤ 2 * l.call-index)
+abbrev pub invariant-loop-slot : goal.invariant-loop-slot
+invariant-loop-slot l =
+    (tally_in (weight (shown l.bay) l.s) (map slot_shown l.slots) ≡ l.count + tally_in (weight (shown l.bay) l.s) (map slot_shown (drop l.slot-index l.slots)))
+    × (l.count ≤ 2 * l.slot-index)

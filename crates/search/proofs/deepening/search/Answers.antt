@@ -1,7 +1,7 @@
 use Rattle.std.proofs.Common.{◌≡◌, ℕ, suc, ◌+◌, ◌-◌, ◌<◌, ◌≤◌, true, false, List, length, vec_items, sym, refl, ap, ◌∙◌, add-one, arith, rules}
 use Rattle.std.proofs.lemmas.List.{length-map}
 use Rattle.bay.specs.Shown.{shown}
-use Rattle.bay.proofs.Working.{work_sound}
+use Rattle.bay.proofs.Bays.{work_sound}
 use Rattle.model.specs.Search.{Outcome, searched, found, spent, over, fewest, at_least, no_way}
 use Rattle.model.proofs.Outcomes.{promised}
 use Rattle.search.specs.declared.workspace.Frame.{Frame}

@@ -2,7 +2,7 @@ use Rattle.std.proofs.Common.{◌≡◌, ◌+◌, ◌≤◌, true, [], ◌∷◌
 use Rattle.std.proofs.lemmas.List.{length_push, nil_from_length}
 use Rattle.bay.specs.Ask.{opens}
 use Rattle.bay.specs.Shown.{shown}
-use Rattle.bay.proofs.Working.{work_sound}
+use Rattle.bay.proofs.Bays.{work_sound}
 use Rattle.model.specs.Search.{next, found}
 use Rattle.model.specs.Targets.{target}
 use Rattle.search.specs.Rounds.{Aims}

@@ -1,9 +1,30 @@
-use Rattle.bay.proofs.Carrying.{carriage, rows_for}
-use Rattle.std.proofs.Common.{◌∙◌}
+use Rattle.std.proofs.Common.{◌<◌, sym, ap, ◌∙◌, subst}
+use Rattle.model.specs.Bays.{taken_from, put_on, relocated}
+use Rattle.bay.specs.Ask.{height_at}
+use Rattle.bay.specs.Build.{Newcomer}
+use Rattle.bay.specs.Shown.{shown}
+use Rattle.bay.specs.Slots.{slot_shown}
+use Rattle.bay.proofs.Bays.{work_sound}
+use Rattle.bay.proofs.Carrying.{opened, taken_newcomer, taken_low}
 use Rattle.bay.proofs.work.WorkBay.carry.Goals as goal
 
-pub shift_top-requires : goal.shift_top-requires
-shift_top-requires c =
+pub put-requires-clause-low : goal.put-requires-clause-low
+unfolding taken_from
+put-requires-clause-low c =
     let w = c.args.self.now in
-    let p = rows_for w c.args.from c.args.to (carriage w c.args.from c.args.to (λ z. c.if-height-eq0.false (c.height.ensures ∙ z)) c.if-not-is_open.ensures) in
-    record { leaves = p.leaves; enters = p.enters; other = p.apart; some = p.stands; low = p.low }
+    subst (λ b. height_at b c.args.to < 8) (sym c.take_off.ensures)
+    (taken_low (shown w) (work_sound w) c.args.from c.args.to c.in-Some.ensures.0 (opened (shown w) c.args.from c.args.to c.if-not-is_open.ensures))
+
+pub put-requires-clause-new : goal.put-requires-clause-new
+unfolding taken_from
+put-requires-clause-new c =
+    let w = c.args.self.now in
+    subst (λ b. Newcomer b (slot_shown c.in-Some.slot)) (sym c.take_off.ensures)
+    (subst (Newcomer (taken_from (shown w) c.args.from)) (sym c.in-Some.ensures.1) (taken_newcomer (shown w) (work_sound w) c.args.from c.args.to c.in-Some.ensures.0))
+
+pub returns-clause-after : goal.returns-clause-after
+unfolding relocated taken_from
+returns-clause-after c =
+    c.put.ensures
+    ∙ ap (λ b. put_on b c.args.to (slot_shown c.in-Some.slot)) c.take_off.ensures
+    ∙ ap (put_on (taken_from (shown c.args.self.now) c.args.from) c.args.to) c.in-Some.ensures.1
