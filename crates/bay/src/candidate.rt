@@ -2,6 +2,8 @@ ghost use Rattle.std.specs.Prelude.{◌≡◌};
 ghost use Rattle.model.specs.Targets.{nobody, better};
 ghost use Rattle.bay.specs.Target.{best_shown};
 
+use crate::slot::UNCALLED;
+
 // The crate that goes first among those seen: how late it is called, how many crates stand above it, its stack.
 #[derive(Clone, Copy)]
 pub struct Best {
@@ -11,11 +13,12 @@ pub struct Best {
 }
 
 impl Best {
+    // No crate yet: later than every called one, so that the scan has one comparison and no case.
     pub fn nobody() -> Best
         ensures { best_shown result ≡ nobody }
     {
         Best {
-            late: 65536,
+            late: UNCALLED,
             above: 0,
             stack: 0,
         }
@@ -25,7 +28,8 @@ impl Best {
     pub fn better(self, other: Best) -> Best
         ensures { best_shown result ≡ better (best_shown self) (best_shown other) }
     {
-        if (other.late, other.above) < (self.late, self.above) {
+        // Spelled out: comparing two pairs costs a sixth of the time of a look-ahead.
+        if other.late < self.late || (other.late == self.late && other.above < self.above) {
             other
         } else {
             self

@@ -7,15 +7,18 @@ ghost use Rattle.bay.specs.Slots.{slot_shown};
 use crate::faults::Label;
 use model::numbers::{CallNumber, CrateNumber};
 
+// The lateness of an uncalled crate: a number, later than every call, so that one `<` orders any two crates.
+pub const UNCALLED: u32 = 65536;
+
 // A crate as it stands in a stack: its number, and its call number.
-#[derive(Clone, Copy)]
+#[derive(Clone, Copy, Debug, PartialEq, Eq)]
 pub struct Slot {
     pub number: CrateNumber,
     pub call: CallNumber,
 }
 
 impl Slot {
-    // What stands where no crate stands: zero in both numbers.
+    // What stands where no crate stands: what is not there answers zero.
     pub(crate) fn empty() -> Slot
         ensures { slot_shown result ≡ no_slot }
     {
@@ -30,7 +33,7 @@ impl Slot {
         ensures { result ≡ lateness (slot_shown self).call }
     {
         if self.call.number == 0 {
-            65536
+            UNCALLED
         } else {
             u32::from(self.call.number)
         }

@@ -6,6 +6,7 @@ mod ask;
 mod change;
 
 // One stack of a working bay: at most eight crates, bottom first, and the clearance, which it may stand higher than.
+// Fixed places and a height, and no list from the heap: a bay is copied at every try of a search.
 #[derive(Clone, Copy)]
 pub struct Stack {
     clearance: u8,

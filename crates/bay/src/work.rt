@@ -10,7 +10,7 @@ mod find;
 mod moves;
 
 // The bay that a search works on: flat, with no memory of its own elsewhere, so that a copy is one block.
-// Every value is a sound bay.
+// Every value is a sound bay. It is seen through `shown` and not as a model, which would hide that from whoever holds one.
 #[derive(Clone, Copy)]
 pub struct WorkBay {
     count: u8,

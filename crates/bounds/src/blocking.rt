@@ -4,6 +4,7 @@ ghost use Rattle.model.specs.Bounds.{blockers as blocking_in, blocking};
 ghost use Rattle.model.proofs.LookAhead.{blocking_is_honest};
 
 use crate::bound::LowerBound;
+use bay::slot::UNCALLED;
 use bay::stack::Stack;
 use bay::work::WorkBay;
 
@@ -17,7 +18,7 @@ fn blockers(stack: &Stack) -> u16
     ensures small { result ≤ 8 }
 {
     let mut count = 0;
-    let mut earliest = 65536;
+    let mut earliest = UNCALLED;
     for slot in stack.slots() {
         let late = slot.lateness();
         if earliest < late {

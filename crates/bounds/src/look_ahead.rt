@@ -19,8 +19,8 @@ pub struct LookAhead;
 fn blocks_elsewhere(bay: &WorkBay, s: u8, slot: Slot) -> bool
     ensures { result ≡ elsewhere (lateness (slot_shown slot).call) s 1 (shown bay.now) }
 {
-    for (row, stack) in bay.stacks().iter().enumerate() {
-        if row + 1 != usize::from(s) && !stack.has_earlier(slot) {
+    for (number, stack) in (1..).zip(bay.stacks()) {
+        if number != s && !stack.has_earlier(slot) {
             return false;
         }
     }

@@ -1,63 +1,70 @@
+ghost use Rattle.std.specs.Prelude.{◌≡◌, vec_len};
+
 use crate::small::Small;
+use std::alloc::{AllocError, Global};
 
-// Destinations, numbered from 1, of the relocations made so far.
-#[derive(Clone, Copy)]
-pub struct Path {
-    pub length: usize,
-    pub destinations: [u8; 32],
+// A walk through the legal handlings of a bay: the bay as it is now, the destinations, numbered from 1, of the
+// relocations that led there, and the first of the shortest handlings that were met.
+#[derive(Drop)]
+struct Walk {
+    bay: Small,
+    made: Vec<usize>,
+    best: Option<Vec<usize>>,
 }
 
-// The first of the shortest handlings that were met.
-#[derive(Clone, Copy)]
-pub struct Shortest {
-    pub found: bool,
-    pub path: Path,
-}
-
-impl Path {
-    pub(crate) fn empty() -> Path {
-        Path {
-            length: 0,
-            destinations: [0; 32],
+impl Walk {
+    // Keeps the handling that was just made if none as short was met.
+    fn keep(&mut self) -> Result<(), AllocError>
+        ensures { self.new.bay ≡ self.old.bay }
+    {
+        let made = self.made.len();
+        if self.best.as_ref().is_none_or(|best| made < best.len()) {
+            self.best = Some(self.made.clone()?);
         }
+        Ok(())
     }
 
-    fn and(&self, destination: usize) -> Path {
-        let mut longer = *self;
-        if self.length < 32 && destination < 255 {
-            longer.destinations[self.length] = destination as u8 + 1;
-            longer.length = self.length + 1;
+    // Goes on with every legal move, destinations rising, and takes each back.
+    fn go_on(&mut self, fuel: u8) -> Result<(), AllocError>
+        ensures { vec_len self.new.bay.stacks ≡ vec_len self.old.bay.stacks }
+    {
+        let Some(target) = self.bay.target() else {
+            return self.keep();
+        };
+        if fuel == 0 {
+            return Ok(());
         }
-        longer
+        if target.above == 0 {
+            self.bay.stacks[target.stack].calls.pop();
+            self.go_on(fuel - 1)?;
+            self.bay.stacks[target.stack].calls.push(Some(target.call))?;
+            return Ok(());
+        }
+        // By place: the bay changes on the way.
+        for to in 0..self.bay.stacks.len() {
+            if to != target.stack && self.bay.stacks[to].has_space() {
+                self.bay.carry(target.stack, to)?;
+                self.made.push(to + 1)?;
+                self.go_on(fuel - 1)?;
+                self.made.pop();
+                self.bay.carry(to, target.stack)?;
+            }
+        }
+        Ok(())
     }
 }
 
-// Goes through every legal handling of the bay, destinations rising, and keeps the first of the shortest.
-pub(crate) fn every_handling(bay: &Small, made: &Path, fuel: u8, best: &mut Shortest) {
-    let Some(target) = bay.target() else {
-        if !best.found || made.length < best.path.length {
-            *best = Shortest {
-                found: true,
-                path: *made,
-            };
-        }
-        return;
+// The destinations of the first of the shortest legal handlings of a bay, of those with at most `fuel` moves.
+pub(crate) fn shortest_handling(
+    alloc: Global,
+    bay: Small,
+    fuel: u8,
+) -> Result<Option<Vec<usize>>, AllocError> {
+    let mut walk = Walk {
+        bay,
+        made: Vec::new(alloc),
+        best: None,
     };
-    if fuel == 0 {
-        return;
-    }
-    if target.tier.saturating_add(1) >= bay.height(target.stack) {
-        let mut after = *bay;
-        after.pop(target.stack);
-        every_handling(&after, made, fuel - 1, best);
-        return;
-    }
-    for d in 0..bay.stacks {
-        if d != target.stack && bay.has_space(d) {
-            let mut after = *bay;
-            let call = after.pop(target.stack);
-            after.push(d, call);
-            every_handling(&after, &made.and(d), fuel - 1, best);
-        }
-    }
+    walk.go_on(fuel)?;
+    Ok(walk.best)
 }

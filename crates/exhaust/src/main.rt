@@ -1,21 +1,25 @@
 #![tactic(auto)]
 
+ghost use Rattle.std.specs.Prelude.{◌<◌};
+
 mod every;
 mod small;
 
-use anyhow::anyhow;
+use bay::faults::BuildFault;
 use bay::slot::Slot;
 use bay::work::WorkBay;
 use bounds::blocking::BlockingCount;
 use bounds::bound::LowerBound;
 use bounds::look_ahead::LookAhead;
 use bounds::null::NullBound;
-use every::{Path, Shortest, every_handling};
+use every::shortest_handling;
 use model::numbers::{CallNumber, CrateNumber};
 use search::deepening::search;
 use search::outcome::Kind;
 use search::workspace::Workspace;
-use small::Small;
+use small::{Small, Stack};
+use std::alloc::{AllocError, Global};
+use std::ops::RangeFrom;
 
 // Numbers that look random and are the same on every run.
 #[derive(Clone, Copy)]
@@ -24,119 +28,120 @@ struct Dice {
 }
 
 impl Dice {
-    fn roll(&mut self, sides: u32) -> u32 {
+    // A number below `sides`; 0 where there are none.
+    fn roll(&mut self, sides: u32) -> u32
+        ensures { 0 < sides → result < sides }
+    {
         self.state = self.state.wrapping_mul(1664525).wrapping_add(1013904223);
-        if sides == 0 {
-            0
-        } else {
-            (self.state >> 16) % sides
-        }
+        (self.state >> 16).checked_rem(sides).unwrap_or(0)
     }
 }
 
-// One stack of the bay: a clearance of 0 to 4, and up to three crates, each with the next call that is left, or uncalled.
-fn roll_stack(dice: &mut Dice, bay: &mut Small, stack: usize, calls: &mut [u8; 6]) {
-    let height = dice.roll(4);
-    for _ in 0..height {
+// A stack with a clearance of 0 to 4 and up to three crates. Three in four are given a call drawn at random: one that was
+// drawn before is not there to be given again, and the crate stays uncalled.
+fn roll_stack(
+    alloc: Global,
+    dice: &mut Dice,
+    calls: &mut [Option<u8>; 6],
+) -> Result<Stack, AllocError> {
+    // What the dice show is small: `as`, since std has nothing else that cannot fail.
+    let mut stack = Stack {
+        clearance: dice.roll(5) as u8,
+        calls: Vec::new(alloc),
+    };
+    for _ in 0..dice.roll(4) {
         let pick = dice.roll(6) as usize;
-        if pick < 6 && dice.roll(4) > 0 {
-            bay.push(stack, calls[pick]);
-            calls[pick] = 0;
+        let call = if dice.roll(4) > 0 {
+            calls[pick].take()
         } else {
-            bay.push(stack, 0);
-        }
+            None
+        };
+        stack.calls.push(call)?;
     }
+    Ok(stack)
 }
 
-fn roll_bay(dice: &mut Dice) -> Small {
-    let mut bay = Small::empty();
-    let mut calls = [1u8, 2, 3, 4, 5, 6];
-    bay.stacks = dice.roll(4) as usize;
-    for stack in 0..3usize {
-        if stack < bay.stacks {
-            bay.clearances[stack] = (dice.roll(5) & 7) as u8;
-            roll_stack(dice, &mut bay, stack, &mut calls);
-        }
+// A bay of up to three stacks.
+fn roll_bay(alloc: Global, dice: &mut Dice) -> Result<Small, AllocError> {
+    let mut calls = [1, 2, 3, 4, 5, 6].map(Some);
+    let mut stacks = Vec::new(alloc);
+    for _ in 0..dice.roll(4) {
+        stacks.push(roll_stack(alloc, dice, &mut calls)?)?;
     }
-    bay
+    Ok(Small { stacks })
+}
+
+// One stack more for the planner, its crates with the next of the numbers.
+fn build_stack(
+    bay: &mut WorkBay,
+    place: u8,
+    stack: &Stack,
+    numbers: &mut RangeFrom<u32>,
+) -> Result<(), BuildFault> {
+    bay.add_stack(stack.clearance)?;
+    for (call, number) in stack.calls.iter().zip(numbers) {
+        let slot = Slot {
+            number: CrateNumber { number },
+            call: CallNumber {
+                number: call.map_or(0, u16::from),
+            },
+        };
+        bay.add_crate(place, slot)?;
+    }
+    Ok(())
 }
 
 // The same bay for the planner.
-fn build(small: &Small) -> Option<WorkBay> {
+fn build(small: &Small) -> Result<WorkBay, BuildFault> {
     let mut bay = WorkBay::new();
-    let mut number: u32 = 0;
-    for place in 0..12usize {
-        let stack = place / 4;
-        let tier = place % 4;
-        if stack >= small.stacks {
-            break;
-        }
-        if tier == 0 && bay.add_stack(small.clearance(stack)).is_err() {
-            return None;
-        }
-        if tier < small.height(stack) && stack < 3 && tier < 4 {
-            number = number.saturating_add(1);
-            let call = CallNumber {
-                number: small.calls[stack][tier] as u16,
-            };
-            let s = bay.count();
-            if bay
-                .add_crate(
-                    s,
-                    Slot {
-                        number: CrateNumber { number },
-                        call,
-                    },
-                )
-                .is_err()
-            {
-                return None;
-            }
-        }
+    let mut numbers = 1..;
+    for (place, stack) in (1..).zip(&small.stacks) {
+        build_stack(&mut bay, place, stack, &mut numbers)?;
     }
-    Some(bay)
+    Ok(bay)
 }
 
 // Whether the search under a bound answers what going through every handling showed, and the bound is honest.
-fn agrees<B: LowerBound>(bay: &WorkBay, bound: &B, best: &Shortest, space: &mut Workspace) -> bool {
-    let honest = !best.found || bound.estimate(bay) as usize <= best.path.length;
+fn agrees<B: LowerBound>(
+    bay: &WorkBay,
+    bound: &B,
+    best: Option<&[usize]>,
+    space: &mut Workspace,
+) -> bool {
     let outcome = search(bay, bound, 4000000000, space);
-    let same = match outcome.kind {
-        Kind::Fewest(n) => best.found
-            && n as usize == best.path.length
-            && best.path.length <= 32
-            && space.destinations() == &best.path.destinations[0..best.path.length],
-        Kind::AtLeast(_) => false,
-        Kind::NoWay => !best.found,
-    };
-    honest && same
+    match (outcome.kind, best) {
+        (Kind::Fewest(n), Some(best)) => usize::from(n) == best.len()
+            && space
+                .destinations()
+                .iter()
+                .map(|&to| usize::from(to))
+                .eq(best.iter().copied())
+            && usize::from(bound.estimate(bay)) <= best.len(),
+        (Kind::NoWay, None) => true,
+        _ => false,
+    }
 }
 
-fn run(rt: &HostRuntime) -> anyhow::Result<()> {
+fn run(rt: &impl Print, alloc: Global) -> anyhow::Result<()> {
     let mut dice = Dice { state: 20261118 };
-    let mut space = Workspace::new(rt.alloc())?;
+    let mut space = Workspace::new(alloc)?;
     let mut agreed = 0u32;
     let mut with_plan = 0u32;
-    let mut longest = 0usize;
+    let mut longest = 0;
     for _ in 0..600u32 {
-        let small = roll_bay(&mut dice);
-        let mut best = Shortest {
-            found: false,
-            path: Path::empty(),
-        };
-        every_handling(&small, &Path::empty(), 60, &mut best);
-        let Some(bay) = build(&small) else {
-            return Err(anyhow!("a bay could not be built"));
-        };
-        if agrees(&bay, &NullBound, &best, &mut space)
-            && agrees(&bay, &BlockingCount, &best, &mut space)
-            && agrees(&bay, &LookAhead, &best, &mut space)
+        let small = roll_bay(alloc, &mut dice)?;
+        let bay = build(&small)?;
+        let shortest = shortest_handling(alloc, small, 60)?;
+        let best = shortest.as_deref();
+        if agrees(&bay, &NullBound, best, &mut space)
+            && agrees(&bay, &BlockingCount, best, &mut space)
+            && agrees(&bay, &LookAhead, best, &mut space)
         {
-            agreed = agreed.saturating_add(1);
+            agreed += 1;
         }
-        if best.found {
-            with_plan = with_plan.saturating_add(1);
-            longest = longest.max(best.path.length);
+        if let Some(best) = best {
+            with_plan += 1;
+            longest = best.len().max(longest);
         }
     }
     println!(rt;
@@ -146,5 +151,5 @@ fn run(rt: &HostRuntime) -> anyhow::Result<()> {
 }
 
 fn main(rt: HostRuntime) -> anyhow::Result<()> {
-    run(&rt)
+    run(&rt, rt.alloc())
 }

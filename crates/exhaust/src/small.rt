@@ -1,82 +1,70 @@
-// A bay of at most three stacks of at most four crates, written for this comparison alone: what stands in a stack is its
-// call numbers, 0 for uncalled, and every rule is looked up place by place.
-#[derive(Clone, Copy)]
-pub struct Small {
-    pub stacks: usize,
-    pub clearances: [u8; 3],
-    pub heights: [usize; 3],
-    pub calls: [[u8; 4]; 3],
+ghost use Rattle.std.specs.Prelude.{◌≡◌, ◌<◌, IfSome, vec_len};
+
+use std::alloc::AllocError;
+
+// How high a stack may be filled, and the calls of its crates, bottom first; an uncalled crate has none.
+#[derive(Drop)]
+pub struct Stack {
+    pub clearance: u8,
+    pub calls: Vec<Option<u8>>,
 }
 
-// The place of the target: its stack and its tier, counted from 0.
-#[derive(Clone, Copy)]
-pub struct Place {
+// A bay as a list of stacks, written for this comparison alone: every rule is looked up crate by crate.
+#[derive(Drop)]
+pub struct Small {
+    pub stacks: Vec<Stack>,
+}
+
+// A called crate as it waits to leave: its call, the number of crates above it, and its stack, counted from 0. The least
+// one leaves next.
+#[derive(Clone, Copy, Debug, PartialEq, Eq, PartialOrd, Ord)]
+pub struct Target {
+    pub call: u8,
+    pub above: usize,
     pub stack: usize,
-    pub tier: usize,
+}
+
+impl Stack {
+    // The earliest call of the stack, and the number of crates above the crate that has it.
+    fn earliest(&self) -> Option<(u8, usize)> {
+        self.calls
+            .iter()
+            .rev()
+            .enumerate()
+            .filter_map(|(above, call)| call.map(|call| (call, above)))
+            .min()
+    }
+
+    pub(crate) fn has_space(&self) -> bool {
+        self.calls.len() < usize::from(self.clearance)
+    }
 }
 
 impl Small {
-    pub(crate) fn empty() -> Small {
-        Small {
-            stacks: 0,
-            clearances: [0; 3],
-            heights: [0; 3],
-            calls: [[0; 4]; 3],
-        }
-    }
-
-    fn call(&self, stack: usize, tier: usize) -> u8 {
-        if stack < 3 && tier < 4 {
-            self.calls[stack][tier]
-        } else {
-            0
-        }
-    }
-
-    pub(crate) fn height(&self, stack: usize) -> usize {
-        if stack < 3 { self.heights[stack] } else { 0 }
-    }
-
-    pub(crate) fn clearance(&self, stack: usize) -> u8 {
-        if stack < 3 { self.clearances[stack] } else { 0 }
-    }
-
-    pub(crate) fn target(&self) -> Option<Place> {
-        let mut found: Option<Place> = None;
-        let mut lowest = 255;
-        for place in 0..12usize {
-            let stack = place / 4;
-            let tier = place % 4;
-            let k = self.call(stack, tier);
-            if stack < self.stacks && tier < self.height(stack) && k > 0 && k < lowest {
-                lowest = k;
-                found = Some(Place { stack, tier });
+    pub(crate) fn target(&self) -> Option<Target>
+        ensures { IfSome result (λ target. target.stack < vec_len self.now.stacks) }
+    {
+        let mut first: Option<Target> = None;
+        for (stack, s) in self.stacks.iter().enumerate() {
+            if let Some((call, above)) = s.earliest() {
+                let target = Target { call, above, stack };
+                if first.is_none_or(|first| target < first) {
+                    first = Some(target);
+                }
             }
         }
-        found
+        first
     }
 
-    pub(crate) fn has_space(&self, stack: usize) -> bool {
-        stack < self.stacks
-            && self.height(stack) < self.clearance(stack) as usize
-            && self.height(stack) < 4
-    }
-
-    // Takes the top crate off a stack and gives its call.
-    pub(crate) fn pop(&mut self, stack: usize) -> u8 {
-        let height = self.height(stack);
-        if height == 0 || stack >= 3 {
-            return 0;
+    // Takes the top crate of one stack to another.
+    pub(crate) fn carry(&mut self, from: usize, to: usize) -> Result<(), AllocError>
+        requires leaves { from < vec_len self.old.stacks }
+        requires enters { to < vec_len self.old.stacks }
+        ensures { vec_len self.new.stacks ≡ vec_len self.old.stacks }
+    {
+        if let Some(call) = self.stacks[from].calls.pop() {
+            self.stacks[to].calls.push(call)?;
         }
-        self.heights[stack] = height - 1;
-        self.call(stack, height - 1)
-    }
-
-    pub(crate) fn push(&mut self, stack: usize, call: u8) {
-        let height = self.height(stack);
-        if stack < 3 && height < 4 {
-            self.calls[stack][height] = call;
-            self.heights[stack] = height + 1;
-        }
+        Ok(())
     }
 }

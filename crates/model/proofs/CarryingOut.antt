@@ -1,5 +1,5 @@
 -- Destinations that lead to the end are carried out by a legal handling.
-use Rattle.std.proofs.Common.{◌≡◌, ℕ, zero, suc, ◌<◌, List, [], ◌∷◌, ◌++◌, Some, None, Option, sym, refl, ap, ◌∙◌, subst, append-nil, arith}
+use Rattle.std.proofs.Common.{◌≡◌, ℕ, zero, suc, List, [], ◌∷◌, ◌++◌, Some, None, Option, sym, refl, ap, ◌∙◌, subst, append-nil, arith}
 use Rattle.model.specs.Bays.{Bay, taken_from}
 use Rattle.model.specs.Targets.{target}
 use Rattle.model.specs.Moves.{Move, retrieve, relocate, Legal, moved, Handles, dests, stack_of, settle}
@@ -12,23 +12,17 @@ use Rattle.model.proofs.Handlings.{among, legal_retrieve, legal_relocate, retrie
 pub still_by : (b : Bay) → (Legal b retrieve → ⊥) → Still (target b)
 still_by b f = by (target b) refl
   where
-    on : (s a : ℕ) → target b ≡ Some (s, a) → 0 < a
-    on s zero q = absurd (f (retrieve_legal b s q))
-    on s (suc a) q = omega arith
-
     by : (o : Option (ℕ × ℕ)) → target b ≡ o → Still o
     by None e = tt
-    by (Some t) e = on t.0 t.1 e
+    by (Some (s, zero)) e = absurd (f (retrieve_legal b s e))
+    by (Some (s, suc a)) e = omega arith
 
 carries_end : (b : Bay) (ds : List ℕ) → Stuck b ds → Follows (settle b) ds → (target b ≡ None) × (ds ≡ [])
 unfolding ways
-carries_end b [] f w = (ways_none b (target b) refl (subst (λ x. Follows x []) (settle_still b (still_by b f)) w), refl)
+carries_end b [] f w = (ways_none b (target b) refl (rw (settle_still b (still_by b f)) at w), refl)
 carries_end b (d ∷ ds) f w =
-    let v : Follows b (d ∷ ds) = subst (λ x. Follows x (d ∷ ds)) (settle_still b (still_by b f.0)) w in
+    let v : Follows b (d ∷ ds) = rw (settle_still b (still_by b f.0)) at w in
     absurd (f.1 (relocate_legal b d (among b d (still_by b f.0) v.0)))
-
-same_head : (x y : ℕ) (xs ys : List ℕ) → x ∷ xs ≡ y ∷ ys → (x ≡ y) × (xs ≡ ys)
-same_head x y xs ys e = (cc, cc)
 
 carries-all : (ms : List Move) (b : Bay) (ds rest : List ℕ) → LegalRun b ms → dests ms ++ rest ≡ ds → Stuck (after_all b ms) rest → Follows (settle b) ds
     → Handles b ms × (rest ≡ [])

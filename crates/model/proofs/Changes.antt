@@ -1,10 +1,14 @@
 -- What taking, putting and carrying do to a bay.
-use Rattle.std.proofs.Common.{◌≡◌, ℕ, zero, suc, ◌+◌, ◌<◌, ◌≤◌, min, ◌≢◌, ◌⊎◌, List, [], ◌∷◌, ◌++◌, length, get_or, set, sym, refl, ap, ◌∙◌, subst, inl, inr, ⊎_elim, arith}
-use Rattle.std.proofs.lemmas.Bool.{cases_eq}
-use Rattle.std.proofs.lemmas.List.{get_or-set_same, get_or-set_other, length-set, length_push}
+use Rattle.std.proofs.Common.{◌≡◌, ℕ, suc, ◌+◌, ◌<◌, ◌≤◌, min, ◌≢◌, ◌⊎◌, List, [], ◌∷◌, ◌++◌, length, get_or, set, sym, refl, ap, ◌∙◌, subst, inl, inr, ⊎_elim, arith}
+use Rattle.std.proofs.lemmas.Bool.{cases_eq, cases_lt}
+use Rattle.std.proofs.lemmas.List.{get_or-set_same, get_or-set_other, set_past, length-set, length_push}
+use Rattle.std.specs.List.{sum_by}
+use Rattle.std.proofs.lemmas.Grind.{get_or-set_at}
+use Rattle.std.proofs.lemmas.List.Sums.{sum_by_push, sum_by-set}
+use Rattle.std.proofs.lemmas.List.Recursion.{is_sum_by}
 use Rattle.model.specs.Bays.{BayOf, StackOf, items_at, Bay, Stack, Slot, no_stack, taken_from, put_on, relocated, holding, without_top, top_slot, crates, total, tally, tally_in}
 use Rattle.model.specs.Targets.{lateness, lowest, above_of, NoEarlier, Targeted}
-use Rattle.model.proofs.Stacks.{Topped, topped, without_top_snoc, top_slot_snoc, lowest_snoc, above_snoc, above_top}
+use Rattle.model.proofs.Stacks.{slots_of, Topped, topped, without_top_snoc, top_slot_snoc, lowest_snoc, above_snoc, above_top}
 
 pub topped_if : (xs : List Slot) → lowest xs < 65536 → Topped xs
 topped_if [] l = absurd (omega arith)
@@ -26,21 +30,21 @@ pub record Carried (b b' : Bay) (i j : ℕ) (ys : List Slot) (y : Slot) : Type 0
   pub room : (m : ℕ) → (get_or b' m no_stack).clearance ≡ (get_or b m no_stack).clearance
   pub totals : (F : List Slot → ℕ) → total F b' + F (ys ++ y ∷ []) + F (items_at b j) ≡ total F b + F ys + F (items_at b j ++ y ∷ [])
 
+-- a total and a tally are sums
+pub total_sum : {X : Type 0} (F : List X → ℕ) (b : BayOf X) → total F b ≡ sum_by (λ (x : StackOf X). F x.items) b
+total_sum F = is_sum_by (total F) (λ x. F x.items) refl (λ _ _. refl)
+
+pub tally_sum : {X : Type 0} (f : X → ℕ) (xs : List X) → tally_in f xs ≡ sum_by f xs
+tally_sum f = is_sum_by (tally_in f) f refl (λ _ _. refl)
+
 pub total-set : {X : Type 0} (F : List X → ℕ) (b : BayOf X) (i : ℕ) (s : StackOf X) → i < length b → total F (set b i s) + F (items_at b i) ≡ total F b + F s.items
-total-set F [] i s l = absurd (omega arith)
-total-set F (x ∷ b) zero s l = omega arith
-total-set F (x ∷ b) (suc i) s l = omega (arith, total-set F b i s (omega arith))
+total-set {X = X} F b i s l = omega (arith, sum_by-set (λ (x : StackOf X). F x.items) b i s no_stack l, total_sum F (set b i s), total_sum F b)
 
 pub tally_snoc : {X : Type 0} (f : X → ℕ) (ys : List X) (y : X) → tally_in f (ys ++ y ∷ []) ≡ tally_in f ys + f y
-tally_snoc f [] y = omega arith
-tally_snoc f (x ∷ ys) y = omega (arith, tally_snoc f ys y)
+tally_snoc f ys y = omega (arith, sum_by_push f ys y, tally_sum f (ys ++ y ∷ []), tally_sum f ys)
 
 pub room_set : {X : Type 0} (b : BayOf X) (i : ℕ) (l : List X) (j : ℕ) → (get_or (set b i (holding (get_or b i no_stack) l)) j no_stack).clearance ≡ (get_or b j no_stack).clearance
-room_set [] i l j = refl
-room_set (x ∷ b) zero l zero = refl
-room_set (x ∷ b) zero l (suc j) = refl
-room_set (x ∷ b) (suc i) l zero = refl
-room_set (x ∷ b) (suc i) l (suc j) = room_set b i l j
+room_set b i l j = grind (arith, cases_eq j i, cases_lt i (length b), get_or-set_at, get_or-set_other, set_past)
 
 pub taken : {X : Type 0} (b : BayOf X) (i : ℕ) (ys : List X) (y : X) → i < length b → items_at b i ≡ ys ++ y ∷ [] → Taken b (taken_from b (suc i)) i ys y
 unfolding taken_from
@@ -74,9 +78,6 @@ put {X = X} b j y l =
       room = room_set b j _;
       totals = λ F. total-set F b j (holding (get_or b j no_stack) (items_at b j ++ y ∷ [])) l;
     }
-
-abbrev slots_of : Stack → List Slot
-slots_of s = s.items
 
 pub carried : (b : Bay) (i j : ℕ) (ys : List Slot) (y : Slot) → i < length b → j < length b → j ≢ i → items_at b i ≡ ys ++ y ∷ []
     → Carried b (relocated b (suc i) (suc j)) i j ys y
@@ -122,62 +123,56 @@ pub record Peeled (k a : ℕ) (ys : List Slot) (y : Slot) : Type 0 where
   pub low : lowest ys ≡ k
   pub above : above_of k ys ≡ a
 
-pub peeled : (k a : ℕ) (ys : List Slot) (y : Slot) → k < 65536 → lowest (ys ++ y ∷ []) ≡ k → above_of k (ys ++ y ∷ []) ≡ suc a → Peeled k a ys y
-peeled k a ys y c e n = by (cases_eq (lateness y.call) k)
-  where
-    l : lowest (ys ++ y ∷ []) ≡ min (lateness y.call) (lowest ys)
-    l = lowest_snoc ys y
-
-    by : (lateness y.call ≡ k) ⊎ (lateness y.call ≡ k → ⊥) → Peeled k a ys y
-    by (inl q) = absurd (omega (arith, above_top k ys y q (omega (arith, l))))
-    by (inr q) =
-        let lt : k < lateness y.call = omega (arith, l) in
-        let low : lowest ys ≡ k = omega (arith, l) in
-        record { later = lt; low = low; above = omega (arith, above_snoc k ys y c lt low) }
+pub peeled : (b : Bay) (k i a : ℕ) (ys : List Slot) (y : Slot) → Targeted b k i (suc a) → items_at b i ≡ ys ++ y ∷ [] → Peeled k a ys y
+peeled b k i a ys y t e =
+    let l : lowest (items_at b i) ≡ min (lateness y.call) (lowest ys) = ap lowest e ∙ lowest_snoc ys y in
+    let n = ap (above_of k) e in
+    let lt : k < lateness y.call = grind (arith, above_top k ys y) in
+    let low : lowest ys ≡ k = omega arith in
+    record { later = lt; low = low; above = omega (arith, above_snoc k ys y t.called lt low) }
 
 -- a stack whose target is on top
-pub topmost : (k : ℕ) (ys : List Slot) (y : Slot) → k < 65536 → lowest (ys ++ y ∷ []) ≡ k → above_of k (ys ++ y ∷ []) ≡ 0 → (lateness y.call ≡ k) × (k ≤ lowest ys)
-topmost k ys y c e n = by (cases_eq (lateness y.call) k)
-  where
-    l : lowest (ys ++ y ∷ []) ≡ min (lateness y.call) (lowest ys)
-    l = lowest_snoc ys y
-
-    by : (lateness y.call ≡ k) ⊎ (lateness y.call ≡ k → ⊥) → (lateness y.call ≡ k) × (k ≤ lowest ys)
-    by (inl q) = (q, omega (arith, l))
-    by (inr q) = absurd (omega (arith, above_snoc k ys y c (omega (arith, l)) (omega (arith, l))))
+pub topmost : (b : Bay) (k i : ℕ) (ys : List Slot) (y : Slot) → Targeted b k i 0 → items_at b i ≡ ys ++ y ∷ [] → (lateness y.call ≡ k) × (k ≤ lowest ys)
+topmost b k i ys y t e =
+    let l : lowest (items_at b i) ≡ min (lateness y.call) (lowest ys) = ap lowest e ∙ lowest_snoc ys y in
+    let n = ap (above_of k) e in
+    grind (arith, above_snoc k ys y t.called)
 
 -- a stack that gets a later crate, or of which less is asked, still leaves no earlier
-pub no_earlier_less : (k a a' : ℕ) (xs : List Slot) → a ≤ a' → NoEarlier k a' xs → NoEarlier k a xs
-no_earlier_less k a a' xs le (inl l) = inl l
-no_earlier_less k a a' xs le (inr w) = inr (w.0, omega (arith, w.1))
+no_earlier_less : (k a a' : ℕ) (xs : List Slot) → a ≤ a' → NoEarlier k a' xs → NoEarlier k a xs
+no_earlier_less k a a' xs le n = grind arith
 
-pub no_earlier_push : (k a : ℕ) (xs : List Slot) (y : Slot) → k < 65536 → k < lateness y.call → NoEarlier k a xs → NoEarlier k a (xs ++ y ∷ [])
+no_earlier_push : (k a : ℕ) (xs : List Slot) (y : Slot) → k < 65536 → k < lateness y.call → NoEarlier k a xs → NoEarlier k a (xs ++ y ∷ [])
 no_earlier_push k a xs y c ly (inl l) = inl (omega (arith, lowest_snoc xs y))
 no_earlier_push k a xs y c ly (inr w) =
     inr (omega (arith, lowest_snoc xs y, w.0), omega (arith, w.1, above_snoc k xs y c ly w.0))
+
+-- with its top off the target's stack holds the target as before, with one less above, if no other stack gets an earlier one
+pub target_off : (b b' : Bay) (k i a : ℕ) (ys : List Slot) (y : Slot) → Targeted b k i (suc a) → items_at b i ≡ ys ++ y ∷ [] → length b' ≡ length b → items_at b' i ≡ ys
+    → ((m x : ℕ) → m ≢ i → NoEarlier k x (items_at b m) → NoEarlier k x (items_at b' m)) → Targeted b' k i a
+target_off b b' k i a ys y t e long here other =
+    record {
+      called = t.called;
+      inside = omega (arith, t.inside);
+      here = ap lowest here ∙ pl.low;
+      above = ap (above_of k) here ∙ pl.above;
+      least = λ m. ⊎_elim own (λ p. no_earlier_less k a (suc a) (items_at b' m) (omega arith) (other m (suc a) p (t.least m))) (cases_eq m i);
+      first = λ m l. no_earlier_less k (suc a) (suc (suc a)) (items_at b' m) (omega arith) (other m (suc (suc a)) (λ q. omega arith) (t.first m l));
+    }
+  where
+    pl : Peeled k a ys y
+    pl = peeled b k i a ys y t e
+
+    own : {m : ℕ} → m ≡ i → NoEarlier k a (items_at b' m)
+    own p = rw (p, here) (inr (pl.low, omega (arith, pl.above)))
 
 -- carrying from the target's stack leaves the target there, with one less above
 pub target-carried : (b b' : Bay) (k i j a : ℕ) (ys : List Slot) (y : Slot) → Targeted b k i (suc a) → j ≢ i → items_at b i ≡ ys ++ y ∷ []
     → Carried b b' i j ys y → Targeted b' k i a
 target-carried b b' k i j a ys y t ne e mv =
-    record {
-      called = t.called;
-      inside = omega (arith, t.inside, mv.long);
-      here = ap lowest mv.from ∙ pl.low;
-      above = ap (above_of k) mv.from ∙ pl.above;
-      least = λ m. ⊎_elim own (λ p. at m a (suc a) (omega arith) (t.least m) p (cases_eq m j)) (cases_eq m i);
-      first = λ m l. at m (suc a) (suc (suc a)) (omega arith) (t.first m l) (λ q. omega arith) (cases_eq m j);
-    }
+    target_off b b' k i a ys y t e mv.long mv.from (λ m x p n. at m x p n (cases_eq m j))
   where
-    pl : Peeled k a ys y
-    pl = peeled k a ys y t.called (ap lowest (sym e) ∙ t.here) (ap (above_of k) (sym e) ∙ t.above)
-
-    own : {m : ℕ} → m ≡ i → NoEarlier k a (items_at b' m)
-    own p = subst (λ z. NoEarlier k a (items_at b' z)) (sym p) (subst (NoEarlier k a) (sym mv.from) (inr (pl.low, omega (arith, pl.above))))
-
-    at : (m x x' : ℕ) → x ≤ x' → NoEarlier k x' (items_at b m) → m ≢ i → (m ≡ j) ⊎ (m ≡ j → ⊥) → NoEarlier k x (items_at b' m)
-    at m x x' le n p (inl q) =
-        let n' : NoEarlier k x (items_at b j) = no_earlier_less k x x' (items_at b j) le (subst (λ z. NoEarlier k x' (items_at b z)) q n) in
-        subst (λ z. NoEarlier k x (items_at b' z)) (sym q) (subst (NoEarlier k x) (sym mv.into) (no_earlier_push k x (items_at b j) y t.called pl.later n'))
-    at m x x' le n p (inr q) =
-        subst (λ (s : Stack). NoEarlier k x (slots_of s)) (sym (mv.other m p q)) (no_earlier_less k x x' (items_at b m) le n)
+    at : (m x : ℕ) → m ≢ i → NoEarlier k x (items_at b m) → (m ≡ j) ⊎ (m ≡ j → ⊥) → NoEarlier k x (items_at b' m)
+    at m x p n (inl q) =
+        rw (q, mv.into) (no_earlier_push k x (items_at b j) y t.called (peeled b k i a ys y t e).later (rw q at n))
+    at m x p n (inr q) = subst (λ (s : Stack). NoEarlier k x (slots_of s)) (sym (mv.other m p q)) n

@@ -1,7 +1,8 @@
 -- The destinations of a relocation: each a stack with space other than the target's, none twice, tried in order.
-use Rattle.std.proofs.Common.{◌≡◌, ℕ, zero, suc, ◌+◌, ◌<◌, Bool, true, false, cond, not, ◌&&◌, eqb, ◌≢◌, ◌⊎◌, List, [], ◌∷◌, length, get_or, Some, None, Option, sym, refl, ◌∙◌, subst, inl, inr, ⊎_elim, arith}
-use Rattle.std.proofs.lemmas.Bool.{eqb-false, ne_eqb, ltb-true, lt-ltb, and_parts, and_from, not-true, not_from_false}
-use Rattle.model.specs.Bays.{Bay, Stack, no_stack, items_at, has_space}
+use Rattle.std.proofs.Common.{◌≡◌, ℕ, zero, suc, ◌+◌, ◌<◌, true, not, ◌&&◌, eqb, ◌≢◌, ◌⊎◌, List, [], ◌∷◌, length, get_or, Some, None, Option, sym, refl, ◌∙◌, subst, inl, inr, ⊎_elim, arith}
+use Rattle.std.proofs.lemmas.Bool.{cond_both}
+use Rattle.std.proofs.lemmas.Bool.Decides.{nat_tests}
+use Rattle.model.specs.Bays.{Bay, no_stack, items_at, has_space}
 use Rattle.model.specs.Targets.{target}
 use Rattle.model.specs.Moves.{Mem, open_from, destinations}
 use Rattle.model.specs.Search.{ways, ways_at, Among, Precedes, PrecedesIn, Sooner}
@@ -14,21 +15,15 @@ pub record Open (b : Bay) (s n d : ℕ) : Type 0 where
   pub else : d ≢ s
   pub space : length (items_at b j) < (get_or b j no_stack).clearance
 
-open_on : (s n d : ℕ) (x : Stack) (b : Bay) → Open b s (suc n) d → Open (x ∷ b) s n d
-open_on s n d x b o = record { j = suc o.j; is = omega (arith, o.is); inside = omega (arith, o.inside); else = o.else; space = o.space }
-
-opens_on : (s n d : ℕ) (x : Stack) (b : Bay) (t : Bool) → (not (eqb s n) && has_space x) ≡ t
-    → (Mem d (open_from s (suc n) b) → Open b s (suc n) d)
-    → Mem d (cond t (n ∷ open_from s (suc n) b) (open_from s (suc n) b)) → Open (x ∷ b) s n d
-opens_on s n d x b true e ih (inl q) =
-    let p = and_parts (not (eqb s n)) (has_space x) e in
-    record { j = 0; is = omega arith; inside = omega arith; else = λ z. eqb-false s n (not-true (eqb s n) p.0) (sym z ∙ q); space = ltb-true (length x.items) x.clearance p.1 }
-opens_on s n d x b true e ih (inr m) = open_on s n d x b (ih m)
-opens_on s n d x b false e ih m = open_on s n d x b (ih m)
-
 pub opens : (s n d : ℕ) (b : Bay) → Mem d (open_from s n b) → Open b s n d
 opens s n d [] m = absurd m
-opens s n d (x ∷ b) m = opens_on s n d x b (not (eqb s n) && has_space x) refl (opens s (suc n) d b) m
+opens s n d (x ∷ b) m =
+    let later = λ (m : Mem d (open_from s (suc n) b)).
+    let o = opens s (suc n) d b m in
+    let r : Open (x ∷ b) s n d = record { j = suc o.j; is = omega (arith, o.is); inside = omega (arith, o.inside); else = o.else; space = o.space } in r in
+    cond_both (not (eqb s n) && has_space x) (n ∷ open_from s (suc n) b) (open_from s (suc n) b) (λ l. Mem d l → Open (x ∷ b) s n d)
+    (λ e. ⊎_elim (λ q. record { j = 0; is = omega arith; inside = omega arith; else = λ z. grind (arith, nat_tests); space = grind (arith, nat_tests) }) later)
+    (λ e. later) m
 
 -- a list in which each number stands before those that follow
 abbrev pub Ordered : (ℕ → ℕ → Type 0) → List ℕ → Type 0
@@ -56,18 +51,12 @@ total_order d e (x ∷ xs) (inl p) (inr n) = inr (inl (inl (p, n)))
 total_order d e (x ∷ xs) (inr m) (inl q) = inr (inr (inl (q, m)))
 total_order d e (x ∷ xs) (inr m) (inr n) = ⊎_elim inl (⊎_elim (λ p. inr (inl (inr p))) (λ p. inr (inr (inr p)))) (total_order d e xs m n)
 
-precedes_mem : (d e : ℕ) (xs : List ℕ) → Precedes d e xs → Mem d xs × Mem e xs
-precedes_mem d e [] p = absurd p
-precedes_mem d e (x ∷ xs) (inl p) = (inl p.0, inr p.1)
-precedes_mem d e (x ∷ xs) (inr p) = let m = precedes_mem d e xs p in (inr m.0, inr m.1)
-
-rises_on : (s n : ℕ) (b : Bay) (t : Bool) → Ordered ◌<◌ (open_from s (suc n) b) → Ordered ◌<◌ (cond t (n ∷ open_from s (suc n) b) (open_from s (suc n) b))
-rises_on s n b true r = (λ y m. omega (arith, (opens s (suc n) y b m).is), r)
-rises_on s n b false r = r
-
 rises : (s n : ℕ) (b : Bay) → Ordered ◌<◌ (open_from s n b)
 rises s n [] = tt
-rises s n (x ∷ b) = rises_on s n b (not (eqb s n) && has_space x) (rises s (suc n) b)
+rises s n (x ∷ b) =
+    let r = rises s (suc n) b in
+    cond_both (not (eqb s n) && has_space x) (n ∷ open_from s (suc n) b) (open_from s (suc n) b) (Ordered ◌<◌)
+    (λ e. (λ y m. omega (arith, (opens s (suc n) y b m).is), r)) (λ e. r)
 
 -- in a list that rises, what stands before is lower
 precedes_lower : (d e : ℕ) (xs : List ℕ) → Ordered ◌<◌ xs → Precedes d e xs → d < e
@@ -111,18 +100,13 @@ pub sooner_total : (b : Bay) (d e : ℕ) → Among d (ways b) → Among e (ways 
 sooner_total b d e m n = total_in d e (ways b) m n
 
 -- a stack with space other than s is a destination
-open_mem_on : (s n : ℕ) (x : Stack) (b : Bay) (t : Bool) → (not (eqb s n) && has_space x) ≡ t → (d : ℕ) → Mem d (open_from s (suc n) b)
-    → Mem d (cond t (n ∷ open_from s (suc n) b) (open_from s (suc n) b))
-open_mem_on s n x b true e d m = inr m
-open_mem_on s n x b false e d m = m
-
 pub open_mem : (s n j : ℕ) (b : Bay) → j < length b → n + j ≢ s → length (items_at b j) < (get_or b j no_stack).clearance → Mem (n + j) (open_from s n b)
 open_mem s n j [] l ne sp = absurd (omega arith)
 open_mem s n zero (x ∷ b) l ne sp =
-    let t : (not (eqb s n) && has_space x) ≡ true =
-    and_from (not (eqb s n)) (has_space x) (not_from_false (eqb s n) (ne_eqb s n (λ q. ne (omega arith)))) (lt-ltb (length x.items) x.clearance sp) in
-    subst (λ v. Mem (n + 0) (cond v (n ∷ open_from s (suc n) b) (open_from s (suc n) b))) (sym t) (inl (omega arith))
+    let t : (not (eqb s n) && has_space x) ≡ true = grind (arith, nat_tests) in
+    rw t (inl (omega arith))
 open_mem s n (suc j) (x ∷ b) l ne sp =
     let m : Mem (suc n + j) (open_from s (suc n) b) = open_mem s (suc n) j b (omega arith) (λ q. ne (omega arith)) sp in
     let e : suc n + j ≡ n + suc j = omega arith in
-    open_mem_on s n x b (not (eqb s n) && has_space x) refl (n + suc j) (subst (λ v. Mem v (open_from s (suc n) b)) e m)
+    let m' = subst (λ v. Mem v (open_from s (suc n) b)) e m in
+    cond_both (not (eqb s n) && has_space x) (n ∷ open_from s (suc n) b) (open_from s (suc n) b) (Mem (n + suc j)) (λ e. inr m') (λ e. m')

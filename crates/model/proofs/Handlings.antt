@@ -1,19 +1,16 @@
 -- Legal handlings are retrievals of settling, with relocations between them.
-use Rattle.std.proofs.Common.{◌≡◌, ℕ, zero, suc, ◌<◌, List, [], ◌∷◌, ◌++◌, replicate, Some, None, Option, refl, ap, ◌∙◌, arith}
+use Rattle.std.proofs.Common.{◌≡◌, ℕ, zero, suc, List, [], ◌∷◌, ◌++◌, replicate, Some, None, Option, refl, ap, ◌∙◌, arith}
 use Rattle.model.specs.Bays.{Bay, taken_from, relocated}
 use Rattle.model.specs.Targets.{target}
-use Rattle.model.specs.Moves.{Move, retrieve, relocate, Mem, destinations, Legal, LegalAt, LegalOn, Handles, stack_of, dests, settle}
+use Rattle.model.specs.Moves.{Move, retrieve, relocate, Mem, destinations, Legal, LegalAt, Handles, stack_of, dests, settle}
 use Rattle.model.specs.Search.{ways, ways_at, next, Among, Follows}
 use Rattle.model.proofs.Settling.{Still, Settles, stop, step, settles, settled, settle_out, settle_still}
 
 -- legal moves, by the target
-legal_retrieve_on : (b : Bay) (s a : ℕ) → target b ≡ Some (s, a) → LegalOn b s a retrieve → (s : ℕ) × (target b ≡ Some (s, 0))
-legal_retrieve_on b s zero e p = (s, e)
-legal_retrieve_on b s (suc a) e p = absurd p
-
 legal_retrieve_at : (b : Bay) (o : Option (ℕ × ℕ)) → target b ≡ o → LegalAt b o retrieve → (s : ℕ) × (target b ≡ Some (s, 0))
 legal_retrieve_at b None e p = absurd p
-legal_retrieve_at b (Some t) e p = legal_retrieve_on b t.0 t.1 e p
+legal_retrieve_at b (Some (s, zero)) e p = (s, e)
+legal_retrieve_at b (Some (s, suc a)) e p = absurd p
 
 pub legal_retrieve : (b : Bay) → Legal b retrieve → (s : ℕ) × (target b ≡ Some (s, 0))
 legal_retrieve b p = legal_retrieve_at b (target b) refl p
@@ -24,13 +21,10 @@ pub record Relocates (b : Bay) (d : ℕ) : Type 0 where
   pub is : target b ≡ Some (s, suc a)
   pub opens : Mem d (destinations b s)
 
-legal_relocate_on : (b : Bay) (d s a : ℕ) → target b ≡ Some (s, a) → LegalOn b s a (relocate d) → Relocates b d
-legal_relocate_on b d s zero e p = absurd p
-legal_relocate_on b d s (suc a) e p = record { s = s; a = a; is = e; opens = p }
-
 legal_relocate_at : (b : Bay) (d : ℕ) (o : Option (ℕ × ℕ)) → target b ≡ o → LegalAt b o (relocate d) → Relocates b d
 legal_relocate_at b d None e p = absurd p
-legal_relocate_at b d (Some t) e p = legal_relocate_on b d t.0 t.1 e p
+legal_relocate_at b d (Some (s, zero)) e p = absurd p
+legal_relocate_at b d (Some (s, suc a)) e p = record { s = s; a = a; is = e; opens = p }
 
 pub legal_relocate : (b : Bay) (d : ℕ) → Legal b (relocate d) → Relocates b d
 legal_relocate b d p = legal_relocate_at b d (target b) refl p
@@ -66,7 +60,7 @@ pub record Rest {b c : Bay} (p : Settles b c) (ms : List Move) : Type 0 where
 pub handles_off : {b c : Bay} (p : Settles b c) (ms : List Move) → Handles b ms → Rest p ms
 unfolding steps
 handles_off (stop w) ms h = record { rest = ms; is = refl; handles = h }
-handles_off (step {b} {b'} s e r) [] h = let y : ◌≡◌ {A = ℕ} 0 1 = cc in absurd (omega arith)
+handles_off (step {b} {b'} s e r) [] h = cc
 handles_off (step {b} {b'} s e r) (retrieve ∷ ms) h =
     let f : Handles (taken_from b s) ms = rw e at h.1 in
     let q = handles_off r ms f in
@@ -93,15 +87,12 @@ pub record Handling (b : Bay) (ds : List ℕ) : Type 0 where
 
 pub ways_none : (b : Bay) (o : Option (ℕ × ℕ)) → target b ≡ o → ways_at b o ≡ None → target b ≡ None
 ways_none b None e p = e
-ways_none b (Some t) e p = let y : ◌≡◌ {A = ℕ} 0 1 = cc in absurd (omega arith)
-
-among_on : (b : Bay) (d s a : ℕ) → target b ≡ Some (s, a) → 0 < a → Mem d (destinations b s) → Relocates b d
-among_on b d s zero e w m = absurd (omega arith)
-among_on b d s (suc a) e w m = record { s = s; a = a; is = e; opens = m }
+ways_none b (Some t) e p = cc
 
 among_at : (b : Bay) (d : ℕ) (o : Option (ℕ × ℕ)) → target b ≡ o → Still o → Among d (ways_at b o) → Relocates b d
 among_at b d None e w m = absurd m
-among_at b d (Some t) e w m = among_on b d t.0 t.1 e w m
+among_at b d (Some (s, zero)) e w m = absurd (omega arith)
+among_at b d (Some (s, suc a)) e w m = record { s = s; a = a; is = e; opens = m }
 
 pub among : (b : Bay) (d : ℕ) → Still (target b) → Among d (ways b) → Relocates b d
 unfolding ways

@@ -1,19 +1,19 @@
 -- The blocking count and the look-ahead are honest, by one induction over a legal handling.
-use Rattle.std.proofs.Common.{◌≡◌, ℕ, zero, suc, ◌+◌, ◌<◌, ◌≤◌, min, Bool, true, false, ◌||◌, eqb, ltb, ◌≢◌, ◌⊎◌, List, [], ◌∷◌, ◌++◌, length, Some, None, Option, sym, refl, ap, ◌∙◌, subst, inl, inr, ⊎_elim, append_assoc, append-nil, arith}
-use Rattle.std.proofs.lemmas.Bool.{ltb-true, lt-ltb, le-ltb, cases_eq, and_parts, or_cases, eqb-true}
+use Rattle.std.proofs.Common.{◌≡◌, ℕ, zero, suc, ◌+◌, ◌<◌, ◌≤◌, min, true, ◌||◌, eqb, ltb, ◌≢◌, ◌⊎◌, List, [], ◌∷◌, ◌++◌, length, replicate, Some, None, Option, sym, refl, ap, ◌∙◌, inl, inr, ⊎_elim, append_assoc, append-nil, arith}
+use Rattle.std.proofs.lemmas.Bool.{cases_eq, and_parts}
 use Rattle.std.proofs.lemmas.Bool.Decides.{nat_tests}
-use Rattle.model.specs.Bays.{Bay, Stack, Slot, no_stack, items_at, taken_from, relocated, stack_at, top_slot, crates, total, tally, tally_in, one, out_of_range, Sound}
+use Rattle.std.proofs.lemmas.List.{length-replicate}
+use Rattle.model.specs.Bays.{Bay, Slot, no_stack, items_at, taken_from, relocated, stack_at, top_slot, crates, total, tally, tally_in, one, out_of_range, Sound}
 use Rattle.model.specs.Targets.{lateness, lowest, above_of, target, NoEarlier, Targeted}
-use Rattle.model.specs.Moves.{Move, retrieve, relocate, Handles, relocations, destinations}
+use Rattle.model.specs.Moves.{Move, retrieve, relocate, Handles, relocations}
 use Rattle.model.specs.Bounds.{blockers, blocking, elsewhere, weight}
 use Rattle.model.proofs.Stacks.{Topped, topped, lowest_le, top_slot_snoc}
 use Rattle.model.proofs.Targets.{target_is, Seen, seen, nothing, something}
 use Rattle.model.proofs.Calls.{alone}
-use Rattle.model.proofs.Changes.{Taken, taken, Carried, carried, Peeled, peeled, topmost}
+use Rattle.model.proofs.Changes.{Taken, taken, Carried, carried, peeled, topmost}
 use Rattle.model.proofs.Settling.{some_fewer}
 use Rattle.model.proofs.Handlings.{Relocates, legal_retrieve, legal_relocate}
-use Rattle.model.proofs.Destinations.{opens}
-use Rattle.model.proofs.Soundness.{topping, sound_retrieved, relocates}
+use Rattle.model.proofs.Soundness.{topping, sound_retrieved, by_places, relocates}
 
 -- the look-ahead, one crate at a time
 abbrev pub peel_on : (Bay → ℕ) → Bay → ℕ → ℕ → ℕ
@@ -30,9 +30,6 @@ peel_for (suc n) c = peel_at (peel_for n) c (target c)
 
 unfoldable pub peeled_ahead : Bay → ℕ
 peeled_ahead b = peel_for (crates b) b
-
-abbrev pub slots_of : Stack → List Slot
-slots_of s = s.items
 
 abbrev B : List Slot → ℕ
 B = blockers 65536
@@ -53,10 +50,10 @@ blockers_top : (xs : List Slot) (y : Slot) → B (xs ++ y ∷ []) ≡ B xs + one
 blockers_top xs y = blockers_snoc 65536 xs y (omega arith) ∙ ap (λ z. B xs + one (ltb z (lateness y.call))) (omega (arith, lowest_le xs))
 
 blockers_on : (xs : List Slot) (y : Slot) → lowest xs < lateness y.call → B (xs ++ y ∷ []) ≡ suc (B xs)
-blockers_on xs y l = blockers_top xs y ∙ ap (λ t. B xs + one t) (lt-ltb (lowest xs) (lateness y.call) l) ∙ omega arith
+blockers_on xs y l = grind (arith, nat_tests, blockers_top xs y)
 
 blockers_off : (xs : List Slot) (y : Slot) → lateness y.call ≤ lowest xs → B (xs ++ y ∷ []) ≡ B xs
-blockers_off xs y l = blockers_top xs y ∙ ap (λ t. B xs + one t) (le-ltb (lowest xs) (lateness y.call) l) ∙ omega arith
+blockers_off xs y l = grind (arith, nat_tests, blockers_top xs y)
 
 blockers_up : (xs : List Slot) (y : Slot) → B xs ≤ B (xs ++ y ∷ [])
 blockers_up xs y = omega (arith, blockers_top xs y)
@@ -90,48 +87,40 @@ copy_target c b k i a so p t e =
     later j q = let l = alone b k i a so t j q in omega (arith, copy_lowest c b p j)
 
     own : {j : ℕ} → j ≡ i → NoEarlier k a (items_at c j)
-    own q = inr (ap (λ z. lowest (items_at c z)) q ∙ ap lowest e ∙ t.here, omega (arith, ap (λ z. above_of k (items_at c z)) q, ap (above_of k) e, t.above))
-
-lower_by : (xs xs' zs zs' : List Slot) → xs' ≡ xs → zs' ≡ zs → Lower xs zs → Lower xs' zs'
-lower_by xs xs' zs zs' p q l = record { rest = l.rest; is = q ∙ l.is ∙ ap (λ v. v ++ l.rest) (sym p) }
-
-at_place : (c b : Bay) (i m : ℕ) → m ≡ i → Lower (items_at c i) (items_at b i) → Lower (items_at c m) (items_at b m)
-at_place c b i m q l = subst (λ x. Lower (items_at c x) (items_at b x)) (sym q) l
-
-lower_more : (xs zs : List Slot) (y : Slot) → Lower xs zs → Lower xs (zs ++ y ∷ [])
-lower_more xs zs y l = record { rest = l.rest ++ y ∷ []; is = ap (λ v. v ++ y ∷ []) l.is ∙ append_assoc xs l.rest (y ∷ []) }
+    own q = rw q (inr (ap lowest e ∙ t.here, omega (arith, ap (above_of k) e, t.above)))
 
 -- the copy, as b changes
 copy_taken : (c b b' : Bay) (i : ℕ) (ys : List Slot) (y : Slot) → Copy c b → Lower (items_at c i) ys → Taken b b' i ys y → Copy c b'
-copy_taken c b b' i ys y p l t = record { long = p.long ∙ sym t.long; parts = λ m. at m (cases_eq m i) }
-  where
-    at : (m : ℕ) → (m ≡ i) ⊎ (m ≡ i → ⊥) → Lower (items_at c m) (items_at b' m)
-    at m (inl q) = at_place c b' i m q (lower_by _ _ _ _ refl t.here l)
-    at m (inr q) = lower_by _ _ _ _ refl (ap slots_of (t.other m q)) (p.parts m)
+copy_taken c b b' i ys y p l t =
+    record {
+      long = p.long ∙ sym t.long;
+      parts = λ m. ⊎_elim (λ q. record { rest = l.rest; is = cc }) (λ q. let o = t.other m q in let r = p.parts m in record { rest = r.rest; is = cc }) (cases_eq m i);
+    }
 
 copy_both : (c c' b b' : Bay) (i : ℕ) (ys : List Slot) (y : Slot) → Copy c b → Taken c c' i ys y → Taken b b' i ys y → Copy c' b'
-copy_both c c' b b' i ys y p u t = record { long = u.long ∙ p.long ∙ sym t.long; parts = λ m. at m (cases_eq m i) }
-  where
-    at : (m : ℕ) → (m ≡ i) ⊎ (m ≡ i → ⊥) → Lower (items_at c' m) (items_at b' m)
-    at m (inl q) = at_place c' b' i m q (record { rest = []; is = t.here ∙ sym u.here ∙ sym (append-nil (items_at c' i)) })
-    at m (inr q) = lower_by _ _ _ _ (ap slots_of (u.other m q)) (ap slots_of (t.other m q)) (p.parts m)
+copy_both c c' b b' i ys y p u t =
+    record {
+      long = u.long ∙ p.long ∙ sym t.long;
+      parts = λ m. ⊎_elim (λ q. record { rest = []; is = cc (append-nil ys) })
+          (λ q. let o = t.other m q in let n = u.other m q in let r = p.parts m in record { rest = r.rest; is = cc }) (cases_eq m i);
+    }
 
 copy_carried : (c b b' : Bay) (i j : ℕ) (ys : List Slot) (y : Slot) → Copy c b → Lower (items_at c i) ys → Carried b b' i j ys y → Copy c b'
-copy_carried c b b' i j ys y p l t = record { long = p.long ∙ sym t.long; parts = λ m. at m (cases_eq m i) (cases_eq m j) }
+copy_carried c b b' i j ys y p l t = record { long = p.long ∙ sym t.long; parts = λ m. at m (p.parts m) (cases_eq m i) (cases_eq m j) }
   where
-    at : (m : ℕ) → (m ≡ i) ⊎ (m ≡ i → ⊥) → (m ≡ j) ⊎ (m ≡ j → ⊥) → Lower (items_at c m) (items_at b' m)
-    at m (inl q) o = at_place c b' i m q (lower_by _ _ _ _ refl t.from l)
-    at m (inr q) (inl o) = at_place c b' j m o (lower_by _ _ _ _ refl t.into (lower_more _ _ y (p.parts j)))
-    at m (inr q) (inr o) = lower_by _ _ _ _ refl (ap slots_of (t.other m q o)) (p.parts m)
+    at : (m : ℕ) → Lower (items_at c m) (items_at b m) → (m ≡ i) ⊎ (m ≡ i → ⊥) → (m ≡ j) ⊎ (m ≡ j → ⊥) → Lower (items_at c m) (items_at b' m)
+    at m r (inl q) o = record { rest = l.rest; is = cc }
+    at m r (inr q) (inl o) = record { rest = r.rest ++ y ∷ []; is = cc (append_assoc (items_at c m) r.rest (y ∷ [])) }
+    at m r (inr q) (inr o) = record { rest = r.rest; is = cc (t.other m q o) }
 
 copy_carried_both : (c c' b b' : Bay) (i j : ℕ) (ys : List Slot) (y : Slot) → j ≢ i → Copy c b → Taken c c' i ys y → Carried b b' i j ys y → Copy c' b'
 copy_carried_both c c' b b' i j ys y ne p u t =
-    record { long = u.long ∙ p.long ∙ sym t.long; parts = λ m. at m (cases_eq m i) (cases_eq m j) }
+    record { long = u.long ∙ p.long ∙ sym t.long; parts = λ m. at m (p.parts m) (cases_eq m i) (cases_eq m j) }
   where
-    at : (m : ℕ) → (m ≡ i) ⊎ (m ≡ i → ⊥) → (m ≡ j) ⊎ (m ≡ j → ⊥) → Lower (items_at c' m) (items_at b' m)
-    at m (inl q) o = at_place c' b' i m q (record { rest = []; is = t.from ∙ sym u.here ∙ sym (append-nil (items_at c' i)) })
-    at m (inr q) (inl o) = at_place c' b' j m o (lower_by _ _ _ _ (ap slots_of (u.other j ne)) t.into (lower_more _ _ y (p.parts j)))
-    at m (inr q) (inr o) = lower_by _ _ _ _ (ap slots_of (u.other m q)) (ap slots_of (t.other m q o)) (p.parts m)
+    at : (m : ℕ) → Lower (items_at c m) (items_at b m) → (m ≡ i) ⊎ (m ≡ i → ⊥) → (m ≡ j) ⊎ (m ≡ j → ⊥) → Lower (items_at c' m) (items_at b' m)
+    at m r (inl q) o = record { rest = []; is = cc (append-nil ys) }
+    at m r (inr q) (inl o) = record { rest = r.rest ++ y ∷ []; is = cc (append_assoc (items_at c m) r.rest (y ∷ []), u.other m q) }
+    at m r (inr q) (inr o) = record { rest = r.rest; is = cc (t.other m q o, u.other m q) }
 
 -- either the copy's stack is whole, or its top is no part of the copy
 pub data Part (c b : Bay) (i : ℕ) : Type 0 where
@@ -145,7 +134,7 @@ part c b i p = by (p.parts i).rest (p.parts i).is
     by [] e = whole (sym (e ∙ append-nil (items_at c i)))
     by (x ∷ r) e =
         let t = topped x r in
-        partly (items_at c i ++ t.under) t.top (e ∙ ap (λ v. items_at c i ++ v) t.is ∙ sym (append_assoc (items_at c i) t.under (t.top ∷ []))) (record { rest = t.under; is = refl })
+        partly (items_at c i ++ t.under) t.top (cc (append_assoc (items_at c i) t.under (t.top ∷ []))) (record { rest = t.under; is = refl })
 
 -- the look-ahead, one crate at a time
 pub ahead_none : (c : Bay) → target c ≡ None → peeled_ahead c ≡ 0
@@ -169,8 +158,7 @@ ahead_some c s a e =
 else_earlier : (l s n : ℕ) (c : Bay) → elsewhere l s n c ≡ true → (j : ℕ) → j < length c → n + j ≢ s → lowest (items_at c j) < l
 else_earlier l s n [] e j lt ne = absurd (omega arith)
 else_earlier l s n (x ∷ c) e zero lt ne =
-    ⊎_elim (λ q. absurd (ne (omega (arith, eqb-true s n q)))) (ltb-true (lowest x.items) l)
-    (or_cases (eqb s n) (ltb (lowest x.items) l) (and_parts (eqb s n || ltb (lowest x.items) l) (elsewhere l s (suc n) c) e).0)
+    let q = (and_parts (eqb s n || ltb (lowest x.items) l) (elsewhere l s (suc n) c) e).0 in grind (arith, nat_tests)
 else_earlier l s n (x ∷ c) e (suc j) lt ne =
     else_earlier l s (suc n) c (and_parts (eqb s n || ltb (lowest x.items) l) (elsewhere l s (suc n) c) e).1 j (omega arith) (λ q. ne (omega arith))
 
@@ -182,8 +170,7 @@ late_cap x e = grind (arith, nat_tests)
 quiet : (xs : List Slot) → tally_in out_of_range xs ≡ 0 → 65536 ≤ lowest xs → B xs ≡ 0
 quiet [] e l = refl
 quiet (x ∷ xs) e l =
-    let cap : lateness x.call ≤ 65536 = late_cap x (omega arith) in
-    let is : lateness x.call ≡ 65536 = omega arith in
+    let is : lateness x.call ≡ 65536 = omega (arith, late_cap x (omega arith)) in
     rw is (omega (arith, quiet xs (omega arith) (omega arith)))
 
 quiet_total : (b : Bay) → tally out_of_range b ≡ 0 → ((j : ℕ) → 65536 ≤ lowest (items_at b j)) → total B b ≡ 0
@@ -197,7 +184,7 @@ none_low b e = by (seen b)
   where
     by : Seen b → (j : ℕ) → 65536 ≤ lowest (items_at b j)
     by (nothing _ q) = q
-    by (something k i a t q) = let z : ◌≡◌ {A = ℕ} 0 1 = cc in absurd (omega arith)
+    by (something k i a t q) = cc
 
 copy_none : (c b : Bay) → Copy c b → target b ≡ None → target c ≡ None
 copy_none c b p e = by (seen c)
@@ -220,7 +207,7 @@ out_step_at b c k i so p t top = by (part c b i p)
     -- the target itself blocks nothing
     free : (ys : List Slot) (y : Slot) → items_at b i ≡ ys ++ y ∷ [] → B (ys ++ y ∷ []) ≡ B ys
     free ys y e =
-        let q = topmost k ys y t.called (ap lowest (sym e) ∙ t.here) (ap (above_of k) (sym e) ∙ t.above) in
+        let q = topmost b k i ys y t e in
         blockers_off ys y (omega (arith, q.0, q.1))
 
     by : Part c b i → OutStep b c (taken_from b (suc i))
@@ -250,21 +237,14 @@ to_step_at : (b c : Bay) (k i j a : ℕ) → Sound b → Copy c b → Targeted b
 to_step_at b c k i j a so p t l ne top = by (part c b i p)
   where
     -- the top crate blocks the target
-    peel : (ys : List Slot) (y : Slot) → items_at b i ≡ ys ++ y ∷ [] → Peeled k a ys y
-    peel ys y e = peeled k a ys y t.called (ap lowest (sym e) ∙ t.here) (ap (above_of k) (sym e) ∙ t.above)
-
     blocks : (ys : List Slot) (y : Slot) → items_at b i ≡ ys ++ y ∷ [] → B (ys ++ y ∷ []) ≡ suc (B ys)
-    blocks ys y e = let q = peel ys y e in blockers_on ys y (omega (arith, q.low, q.later))
+    blocks ys y e = let q = peeled b k i a ys y t e in blockers_on ys y (omega (arith, q.low, q.later))
 
     -- what the look-ahead adds for y is added to what blocks in place j
     extra : (y : Slot) → one (elsewhere (lateness y.call) (suc i) 1 c) ≤ one (ltb (lowest (items_at b j)) (lateness y.call))
-    extra y = at (elsewhere (lateness y.call) (suc i) 1 c) refl
-      where
-        at : (v : Bool) → elsewhere (lateness y.call) (suc i) 1 c ≡ v → one v ≤ one (ltb (lowest (items_at b j)) (lateness y.call))
-        at true e =
-            let lt : lowest (items_at c j) < lateness y.call = else_earlier (lateness y.call) (suc i) 1 c e j (omega (arith, p.long)) (λ z. ne (omega arith)) in
-            rw (lt-ltb (lowest (items_at b j)) (lateness y.call) (omega (arith, copy_lowest c b p j))) (omega arith)
-        at false e = omega arith
+    extra y =
+        let f : elsewhere (lateness y.call) (suc i) 1 c ≡ true → lowest (items_at c j) < lateness y.call = λ e. else_earlier (lateness y.call) (suc i) 1 c e j (omega (arith, p.long)) (λ z. ne (omega arith)) in
+        grind (arith, nat_tests, copy_lowest c b p j)
 
     by : Part c b i → ToStep b c (relocated b (suc i) (suc j))
     by (partly ys y e lo) =
@@ -291,14 +271,8 @@ out_step b c s so p e =
     rw w.shows.number (out_step_at b c w.shows.call w.shows.place so p w.shows.targeted w.tops)
 
 to_step : (b c : Bay) (d : ℕ) (r : Relocates b d) → Sound b → Copy c b → ToStep b c (relocated b r.s d)
-unfolding destinations
 to_step b c d r so p =
-    let w = topping b r.s (suc r.a) r.is in
-    let o = opens r.s 1 d b r.opens in
-    let ds : d ≡ suc o.j = omega (arith, o.is) in
-    let ne : o.j ≢ w.shows.place = λ q. o.else (omega (arith, w.shows.number)) in
-    let at : ToStep b c (relocated b (suc w.shows.place) (suc o.j)) = to_step_at b c w.shows.call w.shows.place o.j r.a so p w.shows.targeted o.inside ne w.tops in
-    subst (λ x. ToStep b c (relocated b x d)) (sym w.shows.number) (subst (λ x. ToStep b c (relocated b (suc w.shows.place) x)) (sym ds) at)
+    by_places b d r (λ s e. ToStep b c (relocated b s e)) (λ k i j t l ne _ top. to_step_at b c k i j r.a so p t l ne top)
 
 -- the relocations of a handling pay for what the copy foresees and for what blocks outside of the copy
 pub paid : (ms : List Move) (b c : Bay) → Sound b → Copy c b → Handles b ms → peeled_ahead c + total B b ≤ relocations ms + total B c
@@ -322,25 +296,21 @@ ahead_honest b so ms h = omega (arith, paid ms b b so (copy_self b) h)
 
 -- the empty copy
 abbrev bare : Bay → Bay
-bare [] = []
-bare (s ∷ b) = no_stack ∷ bare b
+bare b = replicate (length b) no_stack
 
-bare_at : (b : Bay) (i : ℕ) → items_at (bare b) i ≡ []
-bare_at [] i = refl
-bare_at (s ∷ b) zero = refl
-bare_at (s ∷ b) (suc i) = bare_at b i
+bare_at : (n i : ℕ) → ◌≡◌ {A = List Slot} (items_at (replicate n no_stack) i) []
+bare_at zero i = refl
+bare_at (suc n) zero = refl
+bare_at (suc n) (suc i) = bare_at n i
 
-bare_long : (b : Bay) → length (bare b) ≡ length b
-bare_long [] = refl
-bare_long (s ∷ b) = ap suc (bare_long b)
-
-bare_blocking : (b : Bay) → total B (bare b) ≡ 0
-bare_blocking [] = refl
-bare_blocking (s ∷ b) = omega (arith, bare_blocking b)
+bare_blocking : (n : ℕ) → total B (replicate n no_stack) ≡ 0
+bare_blocking zero = refl
+bare_blocking (suc n) = omega (arith, bare_blocking n)
 
 copy_bare : (b : Bay) → Copy (bare b) b
-copy_bare b = record { long = bare_long b; parts = λ i. record { rest = items_at b i; is = sym (ap (λ v. v ++ items_at b i) (bare_at b i)) } }
+copy_bare b =
+    record { long = length-replicate (length b) no_stack; parts = λ i. record { rest = items_at b i; is = sym (ap (λ v. v ++ items_at b i) (bare_at (length b) i)) } }
 
 pub blocking_honest : (b : Bay) → Sound b → (ms : List Move) → Handles b ms → blocking b ≤ relocations ms
 unfolding blocking
-blocking_honest b so ms h = omega (arith, paid ms b (bare b) so (copy_bare b) h, bare_blocking b)
+blocking_honest b so ms h = omega (arith, paid ms b (bare b) so (copy_bare b) h, bare_blocking (length b))

@@ -1,18 +1,17 @@
 -- A legal handling brings out every called crate, lowest call number first.
-use Rattle.std.proofs.Common.{◌≡◌, ℕ, suc, ◌+◌, ◌<◌, ◌≤◌, min, ◌≢◌, ◌⊎◌, List, [], ◌∷◌, ◌++◌, Some, None, sym, ap, ◌∙◌, subst, inl, inr, arith}
+use Rattle.std.proofs.Common.{◌≡◌, ℕ, suc, ◌+◌, ◌<◌, ◌≤◌, min, ◌⊎◌, List, [], ◌∷◌, ◌++◌, Some, None, sym, ap, ◌∙◌, subst, inl, inr, arith}
 use Rattle.std.proofs.lemmas.Bool.{cases_eq}
 use Rattle.std.proofs.lemmas.Bool.Decides.{nat_tests}
 use Rattle.model.specs.Bays.{Bay, Stack, Slot, items_at, stack_at, taken_from, relocated, top_slot, Sound, tally, tally_in, is_call, out_of_range}
-use Rattle.model.specs.Targets.{lateness, lowest, above_of, target, Targeted}
-use Rattle.model.specs.Moves.{Move, retrieve, relocate, Handles, stack_of, destinations}
+use Rattle.model.specs.Targets.{lateness, lowest, target, Targeted}
+use Rattle.model.specs.Moves.{Move, retrieve, relocate, Handles, stack_of}
 use Rattle.model.specs.Leaving.{leaving, Rising, is_slot, BringsOut}
 use Rattle.model.proofs.Stacks.{top_slot_snoc, lowest_snoc}
 use Rattle.model.proofs.Calls.{lateness_call, has_call, tally_at}
 use Rattle.model.proofs.Changes.{Taken, taken, Carried, carried, taken_tally, carried-tally, topmost}
 use Rattle.model.proofs.Handlings.{legal_retrieve, legal_relocate, Relocates}
 use Rattle.model.proofs.Honesty.{none_low}
-use Rattle.model.proofs.Destinations.{opens}
-use Rattle.model.proofs.Soundness.{topping, sound_retrieved, relocates}
+use Rattle.model.proofs.Soundness.{topping, sound_retrieved, by_places, relocates}
 use Rattle.model.proofs.Targets.{least_at}
 
 -- every crate is called later than k
@@ -20,33 +19,22 @@ abbrev pub Above : ℕ → Bay → Type 0
 Above k b = (j : ℕ) → k < lowest (items_at b j)
 
 -- with no target no crate is called
-late_none : (k : ℕ) (x : Slot) → 0 < k → 65536 ≤ lateness x.call → is_call k x ≤ out_of_range x
+late_none : (x y : Slot) → 0 < x.call → 65536 ≤ lateness y.call → is_slot x y ≤ out_of_range y
 unfolding lateness
-late_none k x p l = grind (arith, nat_tests)
+late_none x y p l = grind (arith, nat_tests)
 
-none_in : (k : ℕ) → 0 < k → (xs : List Slot) → 65536 ≤ lowest xs → tally_in (is_call k) xs ≤ tally_in out_of_range xs
-none_in k p [] l = omega arith
-none_in k p (x ∷ xs) l = omega (arith, late_none k x p (omega arith), none_in k p xs (omega arith))
+none_in : (x : Slot) → 0 < x.call → (ys : List Slot) → 65536 ≤ lowest ys → tally_in (is_slot x) ys ≤ tally_in out_of_range ys
+none_in x p [] l = omega arith
+none_in x p (y ∷ ys) l = omega (arith, late_none x y p (omega arith), none_in x p ys (omega arith))
 
-none_over : (k : ℕ) → 0 < k → (b : Bay) → ((j : ℕ) → 65536 ≤ lowest (items_at b j)) → tally (is_call k) b ≤ tally out_of_range b
-none_over k p [] f = omega arith
-none_over k p (s ∷ b) f =
+none_over : (x : Slot) → 0 < x.call → (b : Bay) → ((j : ℕ) → 65536 ≤ lowest (items_at b j)) → tally (is_slot x) b ≤ tally out_of_range b
+none_over x p [] f = omega arith
+none_over x p (s ∷ b) f =
     let l : 65536 ≤ lowest s.items = f 0 in
-    omega (arith, none_in k p s.items l, none_over k p b (λ j. f (suc j)))
-
-slot_call : (x y : Slot) → is_slot x y ≤ is_call x.call y
-slot_call x y = grind (arith, nat_tests)
-
-slots_in : (x : Slot) (ys : List Slot) → tally_in (is_slot x) ys ≤ tally_in (is_call x.call) ys
-slots_in x [] = omega arith
-slots_in x (y ∷ ys) = omega (arith, slot_call x y, slots_in x ys)
-
-slots_over : (x : Slot) (b : Bay) → tally (is_slot x) b ≤ tally (is_call x.call) b
-slots_over x [] = omega arith
-slots_over x (s ∷ b) = omega (arith, slots_in x s.items, slots_over x b)
+    omega (arith, none_in x p s.items l, none_over x p b (λ j. f (suc j)))
 
 none_called : (b : Bay) → target b ≡ None → Sound b → (x : Slot) → 0 < x.call → tally (is_slot x) b ≡ 0
-none_called b e so x p = omega (arith, slots_over x b, none_over x.call p b (none_low b e), so.ranged)
+none_called b e so x p = omega (arith, none_over x p b (none_low b e), so.ranged)
 
 -- a retrieval: the crate on top of the target's stack is the earliest, and every other is called later
 pub record Retrieved (b : Bay) (s : ℕ) (y : Slot) : Type 0 where
@@ -66,7 +54,7 @@ retrieved_at b k i ys y t e =
     tk = taken b i ys y t.inside e
 
     tm : (lateness y.call ≡ k) × (k ≤ lowest ys)
-    tm = topmost k ys y t.called (ap lowest (sym e) ∙ t.here) (ap (above_of k) (sym e) ∙ t.above)
+    tm = topmost b k i ys y t e
 
     calls : y.call ≡ k
     calls = (lateness_call y.call k tm.0 t.called).0
@@ -76,13 +64,9 @@ retrieved_at b k i ys y t e =
     low j (inr q) = omega (arith, ap (λ (x : Stack). lowest x.items) (tk.other j q), least_at b k i 0 t j)
 
     above : Sound b → (j : ℕ) → k < lowest (items_at (taken_from b (suc i)) j)
-    above so j = by (cases_eq (lowest (items_at (taken_from b (suc i)) j)) k)
-      where
-        by : (lowest (items_at (taken_from b (suc i)) j) ≡ k) ⊎ (lowest (items_at (taken_from b (suc i)) j) ≡ k → ⊥) → k < lowest (items_at (taken_from b (suc i)) j)
-        by (inl q) =
-            let h = has_call k (items_at (taken_from b (suc i)) j) q t.called in
-            absurd (omega (arith, h.1, tally_at (is_call k) (taken_from b (suc i)) j, taken_tally b _ i ys y tk (is_call k), own_call k y calls, so.apart k h.0))
-        by (inr q) = omega (arith, low j (cases_eq j i))
+    above so j =
+        let h = has_call k (items_at (taken_from b (suc i)) j) in
+        grind (arith, low j (cases_eq j i), tally_at (is_call k) (taken_from b (suc i)) j, taken_tally b _ i ys y tk (is_call k), own_call k y calls, so.apart k, t.called)
 
 pub retrieved : (b : Bay) (s : ℕ) → target b ≡ Some (s, 0) → Retrieved b s (top_slot (stack_at b s).items)
 retrieved b s e =
@@ -112,15 +96,9 @@ shifted_at b b' i j ys y e mv =
     by k l m (inr p) (inr q) = omega (arith, ap (λ (x : Stack). lowest x.items) (mv.other m p q), l m)
 
 pub shifted : (b : Bay) (d : ℕ) (r : Relocates b d) → Shifted b (relocated b r.s d)
-unfolding destinations
 shifted b d r =
-    let w = topping b r.s (suc r.a) r.is in
-    let o = opens r.s 1 d b r.opens in
-    let ds : d ≡ suc o.j = omega (arith, o.is) in
-    let ne : o.j ≢ w.shows.place = λ q. o.else (omega (arith, w.shows.number)) in
-    let mv = carried b w.shows.place o.j w.tops.under w.tops.top w.shows.targeted.inside o.inside ne w.tops.is in
-    let at : Shifted b (relocated b (suc w.shows.place) (suc o.j)) = shifted_at b _ w.shows.place o.j w.tops.under w.tops.top w.tops.is mv in
-    subst (λ x. Shifted b (relocated b x d)) (sym w.shows.number) (subst (λ x. Shifted b (relocated b (suc w.shows.place) x)) (sym ds) at)
+    by_places b d r (λ s e. Shifted b (relocated b s e))
+    (λ k i j t l ne _ top. shifted_at b _ i j top.under top.top top.is (carried b i j top.under top.top t.inside l ne top.is))
 
 -- over a whole handling
 leaves_rising : (ms : List Move) (b : Bay) (k : ℕ) → Sound b → Above k b → Handles b ms → Rising k (leaving b ms)

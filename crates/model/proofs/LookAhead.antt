@@ -1,38 +1,23 @@
 -- The look-ahead by whole stacks is the look-ahead one crate at a time, and so it is honest.
-use Rattle.std.proofs.Common.{◌≡◌, ℕ, zero, suc, ◌+◌, ◌-◌, ◌*◌, ◌<◌, ◌≤◌, min, Bool, true, false, ◌&&◌, ◌||◌, eqb, ltb, ◌≢◌, List, [], ◌∷◌, ◌++◌, length, get_or, take, drop, set, Some, None, Option, sym, refl, ap, ◌∙◌, subst, inr, ⊎_elim, arith}
-use Rattle.std.proofs.lemmas.Bool.{eq-eqb, cases_eq}
+use Rattle.std.proofs.Common.{◌≡◌, ℕ, zero, suc, ◌+◌, ◌-◌, ◌*◌, ◌≤◌, min, ◌&&◌, ◌||◌, eqb, ltb, List, [], ◌∷◌, ◌++◌, length, get_or, take, drop, set, Some, None, Option, sym, refl, ap, ◌∙◌, subst, arith}
+use Rattle.std.proofs.lemmas.Bool.{eq-eqb}
+use Rattle.std.proofs.lemmas.Bool.Decides.{nat_tests}
 use Rattle.std.proofs.lemmas.List.{set-set, take-append-le, drop-append-le, length_push, drop_all, length-take}
 use Rattle.model.specs.Bays.{Bay, Stack, Slot, no_stack, items_at, taken_from, stack_at, holding, changed, top_slot, without_top, crates, total, tally_in, one, Sound}
-use Rattle.model.specs.Targets.{lateness, lowest, above_of, target, NoEarlier, Targeted}
+use Rattle.model.specs.Targets.{lateness, lowest, target, NoEarlier, Targeted}
 use Rattle.model.specs.Bounds.{elsewhere, weight, ahead_at, ahead_for, look_ahead, blockers, blocking, null}
 use Rattle.model.specs.Claims.{Honest}
-use Rattle.model.proofs.Stacks.{top_slot_snoc}
-use Rattle.model.proofs.Targets.{target_is, is_target, above_under, Seen, seen, nothing, something}
-use Rattle.model.proofs.Changes.{topped_if, Taken, taken, Peeled, peeled, no_earlier_less, total-set, room_set, tally_snoc}
+use Rattle.model.proofs.Stacks.{slots_of, top_slot_snoc}
+use Rattle.model.proofs.Targets.{target_is, is_target, above_under_in, Seen, seen, nothing, something}
+use Rattle.model.proofs.Changes.{topped_if, Taken, taken, target_off, total-set, room_set, tally_snoc}
 use Rattle.model.proofs.Settling.{some_crate}
-use Rattle.model.proofs.Honesty.{peel_for, peel_at, peel_on, peeled_ahead, ahead_none, ahead_some, slots_of, ahead_honest, blocking_honest}
+use Rattle.model.proofs.Honesty.{peel_for, peel_at, peeled_ahead, ahead_none, ahead_some, ahead_honest, blocking_honest}
 use Rattle.model.proofs.Remaining.{crates_le}
 
 -- taking off the top leaves the target
 target_taken : (b b' : Bay) (k i a : ℕ) (ys : List Slot) (y : Slot) → Targeted b k i (suc a) → items_at b i ≡ ys ++ y ∷ [] → Taken b b' i ys y → Targeted b' k i a
 target_taken b b' k i a ys y t e tk =
-    record {
-      called = t.called;
-      inside = omega (arith, t.inside, tk.long);
-      here = ap lowest tk.here ∙ pl.low;
-      above = ap (above_of k) tk.here ∙ pl.above;
-      least = λ m. ⊎_elim own (λ p. else m a (suc a) (omega arith) p (t.least m)) (cases_eq m i);
-      first = λ m l. else m (suc a) (suc (suc a)) (omega arith) (λ q. omega arith) (t.first m l);
-    }
-  where
-    pl : Peeled k a ys y
-    pl = peeled k a ys y t.called (ap lowest (sym e) ∙ t.here) (ap (above_of k) (sym e) ∙ t.above)
-
-    own : {m : ℕ} → m ≡ i → NoEarlier k a (items_at b' m)
-    own p = subst (λ z. NoEarlier k a (items_at b' z)) (sym p) (subst (NoEarlier k a) (sym tk.here) (inr (pl.low, omega (arith, pl.above))))
-
-    else : (m x x' : ℕ) → x ≤ x' → m ≢ i → NoEarlier k x' (items_at b m) → NoEarlier k x (items_at b' m)
-    else m x x' le p n = subst (λ (s : Stack). NoEarlier k x (slots_of s)) (sym (tk.other m p)) (no_earlier_less k x x' (items_at b m) le n)
+    target_off b b' k i a ys y t e tk.long tk.here (λ m x p n. subst (λ (s : Stack). NoEarlier k x (slots_of s)) (sym (tk.other m p)) n)
 
 -- what stands in stack s does not matter to the others
 elsewhere-set : (l s n i : ℕ) (c : Bay) (x : Stack) → s ≡ n + i → elsewhere l s n (set c i x) ≡ elsewhere l s n c
@@ -95,14 +80,13 @@ at_once (suc a) c k i t =
       ap peeled_ahead ch,
     )
 
-fewer_left : (c : Bay) (k i a : ℕ) → Targeted c k i a → crates (changed c (suc i) (take (length (items_at c i) - suc a) (items_at c i))) < crates c
-fewer_left c k i a t =
-    let top = topped_if (items_at c i) (omega (arith, t.here, t.called)) in
-    let len : length (items_at c i) ≡ length top.under + 1 = ap length top.is ∙ length_push top.under top.top in
+fewer_at : (c : Bay) (k i a : ℕ) → Targeted c k i a → crates (changed c (suc i) (take (length (items_at c i) - suc a) (items_at c i))) + suc a ≡ crates c
+fewer_at c k i a t =
     omega (
       arith,
       total-set length c i (holding (get_or c i no_stack) (take (length (items_at c i) - suc a) (items_at c i))) t.inside,
       length-take (length (items_at c i) - suc a) (items_at c i),
+      above_under_in k (items_at c i) (omega (arith, t.here, t.called)),
     )
 
 ahead_step : (n : ℕ) (c : Bay) → ((d : Bay) → crates d ≤ n → ahead_for n d ≡ peeled_ahead d) → crates c ≤ suc n → Seen c
@@ -111,7 +95,7 @@ ahead_step n c ih le (nothing q _) = ap (ahead_at (ahead_for n) c) q ∙ sym (ah
 ahead_step n c ih le (something k i a t q) =
     let c' = changed c (suc i) (take (length (items_at c i) - suc a) (items_at c i)) in
     ap (ahead_at (ahead_for n) c) q
-    ∙ ap (λ v. tally_in (weight c (suc i)) (drop (length (items_at c i) - a) (items_at c i)) + v) (ih c' (omega (arith, fewer_left c k i a t)))
+    ∙ ap (λ v. tally_in (weight c (suc i)) (drop (length (items_at c i) - a) (items_at c i)) + v) (ih c' (omega (arith, fewer_at c k i a t)))
     ∙ sym (at_once a c k i t)
 
 ahead_zero : (c : Bay) → crates c ≤ 0 → Seen c → 0 ≡ peeled_ahead c
@@ -127,17 +111,10 @@ unfolding look_ahead
 look_ahead_is b = ahead_is (crates b) b (omega arith)
 
 -- the bounds are small
-peel_small_on : (n : ℕ) → ((d : Bay) → peel_for n d ≤ 2 * n) → (c : Bay) (s a : ℕ) → peel_on (peel_for n) c s a ≤ 2 * suc n
-peel_small_on n ih c s zero = omega (arith, ih (taken_from c s))
-peel_small_on n ih c s (suc a) = let z = elsewhere (lateness (top_slot (stack_at c s).items).call) s 1 c in omega (arith, ih (taken_from c s), one_le z)
-  where
-    one_le : (t : Bool) → one t ≤ 1
-    one_le true = omega arith
-    one_le false = omega arith
-
 peel_small_at : (n : ℕ) → ((d : Bay) → peel_for n d ≤ 2 * n) → (c : Bay) (o : Option (ℕ × ℕ)) → peel_at (peel_for n) c o ≤ 2 * suc n
 peel_small_at n ih c None = omega arith
-peel_small_at n ih c (Some t) = peel_small_on n ih c t.0 t.1
+peel_small_at n ih c (Some (s, zero)) = omega (arith, ih (taken_from c s))
+peel_small_at n ih c (Some (s, suc a)) = grind (arith, nat_tests, ih (taken_from c s))
 
 peel_small : (n : ℕ) (c : Bay) → peel_for n c ≤ 2 * n
 peel_small zero c = omega arith
@@ -145,11 +122,7 @@ peel_small (suc n) c = peel_small_at n (peel_small n) c (target c)
 
 blockers_small : (low : ℕ) (xs : List Slot) → blockers low xs ≤ length xs
 blockers_small low [] = omega arith
-blockers_small low (x ∷ xs) = let ih = blockers_small (min low (lateness x.call)) xs in by (ltb low (lateness x.call)) ih
-  where
-    by : (t : Bool) → blockers (min low (lateness x.call)) xs ≤ length xs → one t + blockers (min low (lateness x.call)) xs ≤ suc (length xs)
-    by true i = omega arith
-    by false i = omega arith
+blockers_small low (x ∷ xs) = grind (arith, nat_tests, blockers_small (min low (lateness x.call)) xs)
 
 blocking_small : (b : Bay) → total (blockers 65536) b ≤ crates b
 blocking_small [] = omega arith
@@ -189,9 +162,4 @@ ahead_one c s a e =
 pub fewer_off : (c : Bay) (s a : ℕ) → target c ≡ Some (s, a) → crates (changed c s (take (length (stack_at c s).items - suc a) (stack_at c s).items)) + suc a ≡ crates c
 fewer_off c s a e =
     let t = is_target c s a e in
-    let i = t.place in
-    let xs = items_at c i in
-    let u : a < length xs = subst (λ z. a < length (stack_at c z).items) t.number (above_under c s a e) in
-    let at : crates (changed c (suc i) (take (length xs - suc a) xs)) + suc a ≡ crates c =
-    omega (arith, total-set length c i (holding (get_or c i no_stack) (take (length xs - suc a) xs)) t.targeted.inside, length-take (length xs - suc a) xs) in
-    subst (λ z. crates (changed c z (take (length (stack_at c z).items - suc a) (stack_at c z).items)) + suc a ≡ crates c) (sym t.number) at
+    subst (λ z. crates (changed c z (take (length (stack_at c z).items - suc a) (stack_at c z).items)) + suc a ≡ crates c) (sym t.number) (fewer_at c t.call t.place a t.targeted)

@@ -4,7 +4,7 @@ use Rattle.std.proofs.lemmas.Bool.{lt-ltb, le-ltb, eq-eqb, ne_eqb}
 use Rattle.std.proofs.lemmas.List.{drop_all}
 use Rattle.model.specs.Bays.{Bay, no_stack, has_space, stack_at}
 use Rattle.model.specs.Moves.{open_from, destinations}
-use Rattle.model.specs.Search.{ways, next, Round, found, spent, over, onward, unless_spent, unless_cut, tried, across, from_ways, deep}
+use Rattle.model.specs.Search.{ways, next, Round, found, spent, over, onward, across, from_ways, deep}
 use Rattle.model.proofs.Depth.{D, same_deep, same_ways}
 
 -- a settled bay, the destination last tried in it, and those that are left after it
@@ -49,22 +49,13 @@ module _ (h : Bay → ℕ) (budget limit : ℕ) where
   whole_done g b cut n e = ap (λ o. from_ways h budget limit (D h budget limit limit) g b o cut n) e
 
   -- one try
-  step_try : (g : ℕ) (b : Bay) (d : ℕ) (os : List ℕ) (cut : Bool) (n : ℕ) → n ≢ budget
-      → along h budget limit g b (d ∷ os) cut n ≡ onward d (along h budget limit g b os) (tried h budget limit (D h budget limit (suc limit)) (suc g) (next b d) cut (suc n))
-  step_try g b d os cut n ne =
-      ap (λ t. unless_spent t (λ m. onward d (along h budget limit g b os) (tried h budget limit (D h budget limit (suc limit)) (suc g) (next b d) cut m)) n) (ne_eqb n budget ne)
-
   pub step_cut : (g : ℕ) (b : Bay) (d : ℕ) (os : List ℕ) (cut : Bool) (n : ℕ) → n ≢ budget → limit < suc g + h (next b d)
       → along h budget limit g b (d ∷ os) cut n ≡ along h budget limit g b os true (suc n)
-  step_cut g b d os cut n ne lt =
-      step_try g b d os cut n ne
-      ∙ ap (λ t. onward d (along h budget limit g b os) (unless_cut t (D h budget limit (suc limit) (suc g) (next b d)) cut (suc n))) (lt-ltb limit (suc g + h (next b d)) lt)
+  step_cut g b d os cut n ne lt = rw (ne_eqb n budget ne, lt-ltb limit (suc g + h (next b d)) lt)
 
   step_in : (g : ℕ) (b : Bay) (d : ℕ) (os : List ℕ) (cut : Bool) (n : ℕ) → n ≢ budget → suc g + h (next b d) ≤ limit
       → along h budget limit g b (d ∷ os) cut n ≡ onward d (along h budget limit g b os) (whole h budget limit (suc g) (next b d) cut (suc n))
-  step_in g b d os cut n ne le =
-      step_try g b d os cut n ne
-      ∙ ap (λ t. onward d (along h budget limit g b os) (unless_cut t (D h budget limit (suc limit) (suc g) (next b d)) cut (suc n))) (le-ltb limit (suc g + h (next b d)) le)
+  step_in g b d os cut n ne le = rw (ne_eqb n budget ne, le-ltb limit (suc g + h (next b d)) le)
 
   unwind-spent : (fs : List Level) (n : ℕ) → unwind h budget limit fs (spent n) ≡ spent n
   unwind-spent [] n = refl
@@ -84,9 +75,7 @@ module _ (h : Bay → ℕ) (budget limit : ℕ) where
   module _ (fs : List Level) (b : Bay) where
     pub loop_spent : (d : ℕ) (os : List ℕ) (cut : Bool) (n : ℕ) → n ≡ budget
         → unwind h budget limit fs (along h budget limit (length fs) b (d ∷ os) cut n) ≡ spent n
-    loop_spent d os cut n e =
-        ap (λ t. unwind h budget limit fs (unless_spent t (λ m. onward d (along h budget limit (length fs) b os) (tried h budget limit (D h budget limit (suc limit)) (suc (length fs)) (next b d) cut m)) n)) (eq-eqb n budget e)
-        ∙ unwind-spent fs n
+    loop_spent d os cut n e = rw (eq-eqb n budget e) (unwind-spent fs n)
 
     pub loop_cut : (d : ℕ) (os : List ℕ) (cut : Bool) (n : ℕ) → n ≢ budget → limit < suc (length fs) + h (next b d)
         → unwind h budget limit fs (along h budget limit (length fs) b (d ∷ os) cut n)
@@ -105,14 +94,6 @@ module _ (h : Bay → ℕ) (budget limit : ℕ) where
     loop_deeper d os cut n os' ne le e =
         ap (unwind h budget limit fs) (step_in (length fs) b d os cut n ne le ∙ ap (onward d (along h budget limit (length fs) b os)) (whole_open (suc (length fs)) (next b d) os' cut (suc n) e))
         ∙ unwind-onward b d os fs _
-
-    pub loop_back : (f : Level) (cut : Bool) (n : ℕ)
-        → unwind h budget limit (f ∷ fs) (along h budget limit (suc (length fs)) b [] cut n)
-        ≡ unwind h budget limit fs (along h budget limit (length fs) f.bay f.rest cut n)
-    loop_back f cut n = refl
-
-    pub loop_over : (cut : Bool) (n : ℕ) → unwind h budget limit [] (along h budget limit 0 b [] cut n) ≡ over cut n
-    loop_over cut n = refl
 
 -- the destinations by number
 pub remaining-all : (b : Bay) (s : ℕ) → remaining b s 1 ≡ destinations b s

@@ -1,13 +1,12 @@
 -- How many relocations can be left: each relocation of a legal handling brings the number down, and a sound bay has at most 672.
-use Rattle.std.proofs.Common.{◌≡◌, ℕ, suc, pred, ◌+◌, ◌*◌, ◌<◌, ◌≤◌, List, [], ◌∷◌, length, Some, None, Option, arith}
-use Rattle.model.specs.Bays.{Bay, Slot, items_at, taken_from, relocated, crates, Sound}
-use Rattle.model.specs.Targets.{target, above_of}
+use Rattle.std.proofs.Common.{◌≡◌, ℕ, suc, pred, ◌+◌, ◌*◌, ◌<◌, ◌≤◌, [], ◌∷◌, length, Some, None, Option, ap, arith}
+use Rattle.model.specs.Bays.{Bay, items_at, stack_at, taken_from, relocated, crates, Sound}
+use Rattle.model.specs.Targets.{target}
 use Rattle.model.specs.Search.{ways, next, Among}
-use Rattle.model.proofs.Stacks.{Topped, above_le}
-use Rattle.model.proofs.Targets.{Seen, seen, nothing, something}
+use Rattle.model.proofs.Targets.{is_target, above_under, Seen, seen, nothing, something}
 use Rattle.model.proofs.Settling.{Still, Settles, stop, step, settles, settled, some_crate, out_fewer}
 use Rattle.model.proofs.Handlings.{among}
-use Rattle.model.proofs.Soundness.{topping, sound_retrieved, sound_settles, relocates}
+use Rattle.model.proofs.Soundness.{sound_retrieved, sound_settles, relocates}
 
 -- how many relocations can be left at most, with heights of at most 8
 abbrev pub left_at : ℕ → Option (ℕ × ℕ) → ℕ
@@ -19,11 +18,8 @@ left b = left_at (crates b) (target b)
 
 pub above_small : (b : Bay) (s a : ℕ) → target b ≡ Some (s, a) → Sound b → a ≤ 7
 above_small b s a e so =
-    let w = topping b s a e in by (items_at b w.shows.place) w.shows.call w.shows.targeted.above w.tops (so.heights w.shows.place)
-  where
-    by : (xs : List Slot) (k : ℕ) → above_of k xs ≡ a → Topped xs → length xs ≤ 8 → a ≤ 7
-    by [] k q t h = omega arith
-    by (x ∷ xs) k q t h = omega (arith, above_le k x xs)
+    let t = is_target b s a e in
+    omega (arith, above_under b s a e, ap (λ z. length (stack_at b z).items) t.number, so.heights t.place)
 
 left_none : (b : Bay) → target b ≡ None → left b ≡ 0
 left_none b e = rw e

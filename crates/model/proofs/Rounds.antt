@@ -1,6 +1,6 @@
 -- One round, and the rounds: what each end of the search says of the lists of destinations that lead to the end.
 use Rattle.std.proofs.Common.{◌≡◌, ℕ, zero, suc, ◌+◌, ◌<◌, ◌≤◌, Bool, true, false, eqb, ltb, ◌⊎◌, List, [], ◌∷◌, length, Some, None, Option, sym, refl, ap, ◌∙◌, subst, inl, inr, ⊎_elim, arith}
-use Rattle.std.proofs.lemmas.Bool.{ltb-true, ltb-false, eqb-true, true≢false, false≢true}
+use Rattle.std.proofs.lemmas.Bool.{ltb-true, ltb-false, eqb-true, true≢false}
 use Rattle.model.specs.Bays.{Bay}
 use Rattle.model.specs.Moves.{Mem}
 use Rattle.model.specs.Search.{Among, ways, next, Follows, Sooner, Earlier, Round, found, spent, over, Outcome, fewest, at_least, no_way, onward, unless_spent, unless_cut, across, from_ways, deep, next_round, rounds}
@@ -45,9 +45,6 @@ split : (b : Bay) (d : ℕ) (os : List ℕ) (e : ℕ) (tl : List ℕ) → Goes (
     → Goes os b (e ∷ tl) ⊎ ((e ≡ d) × Follows (next b d) tl)
 split b d os e tl p =
     ⊎_elim (λ q. inr (q, subst (λ x. Follows (next b x) tl) q p.1)) (λ m. inl (m, p.1)) p.0
-
-from_head : (b : Bay) (d : ℕ) (ds : List ℕ) → Follows (next b d) ds → (os : List ℕ) → Goes (d ∷ os) b (d ∷ ds)
-from_head b d ds f os = (inl refl, f)
 
 module _ (h : Bay → ℕ) (Fine : Bay → Type 0) (left : Bay → ℕ) (H : ℕ) (L : Laws h Fine left H) (budget limit : ℕ) where
   abbrev DeepRight : ℕ → Type 0
@@ -94,7 +91,7 @@ module _ (h : Bay → ℕ) (Fine : Bay → Type 0) (left : Bay → ℕ) (H : ℕ
       → (r : Round) → Right budget limit (next b d) (Follows (next b d)) (suc g) (left (next b d) + H) cut r
       → Right budget limit b (Goes (d ∷ os) b) g top cut (onward d rest r)
   onward_right b d os g top cut rise under rest ih (found ds n) p =
-      (from_head b d ds p.0 os, omega (arith, p.1), first)
+      ((inl refl, p.0), omega (arith, p.1), first)
     where
       first : (es : List ℕ) → Goes (d ∷ os) b es → g + length es ≤ limit → Earlier b es (d ∷ ds) → ⊥
       first [] q short e = q
@@ -146,7 +143,7 @@ module _ (h : Bay → ℕ) (Fine : Bay → Type 0) (left : Bay → ℕ) (H : ℕ
   FollowsBy o b (d ∷ ds) = Among d o × Follows (next b d) ds
 
   goes : (b : Bay) (os es : List ℕ) → FollowsBy (Some os) b es → Goes os b es
-  goes b os [] q = let z : ◌≡◌ {A = ℕ} 0 1 = cc in omega arith
+  goes b os [] q = cc
   goes b os (x ∷ tl) q = q
 
   goes_back : (b : Bay) (os es : List ℕ) → Goes os b es → FollowsBy (Some os) b es
@@ -192,7 +189,7 @@ module _ (h : Bay → ℕ) (Fine : Bay → Type 0) (left : Bay → ℕ) (H : ℕ
       (p.0, refl, λ es f. omega (arith, low es f, p.1), λ es f s. p.2 es f (omega (arith, p.1)))
   next_meant limit b low more (spent n) p on = low
   next_meant limit b low more (over true n) p on =
-      on n (⊎_elim (λ z. absurd (false≢true z)) (λ z. omega arith) (p.2 refl)) (λ es f. omega (arith, p.0 es f))
+      on n (grind (arith, p.2 refl)) (λ es f. omega (arith, p.0 es f))
   next_meant limit b low more (over false n) p on = (p.1 refl).1
 
   pub rounds_meant : (x fuel limit : ℕ) (b : Bay) (n : ℕ) → Fine b → 0 < fuel → left b + H < limit + fuel
@@ -208,7 +205,7 @@ module _ (h : Bay → ℕ) (Fine : Bay → Type 0) (left : Bay → ℕ) (H : ℕ
       → ((n : ℕ) → limit < left b + H → more n ≡ more' n) → next_round limit more r ≡ next_round limit more' r
   next_same limit b more more' (found ds n) p on = refl
   next_same limit b more more' (spent n) p on = refl
-  next_same limit b more more' (over true n) p on = on n (⊎_elim (λ z. absurd (false≢true z)) (λ z. omega arith) (p.2 refl))
+  next_same limit b more more' (over true n) p on = on n (grind (arith, p.2 refl))
   next_same limit b more more' (over false n) p on = refl
 
   pub rounds_same : (x x' fuel fuel' limit : ℕ) (b : Bay) (n : ℕ) → Fine b → 0 < fuel → 0 < fuel' → left b + H < limit + fuel → left b + H < limit + fuel'
@@ -313,4 +310,4 @@ pub cut_below : (h : Bay → ℕ) (Fine : Bay → Type 0) (left : Bay → ℕ) (
     → Fine b → deep h budget limit (suc (limit + x)) 0 b false n ≡ over true m → limit < left b + H
 cut_below h Fine left H L budget limit x b n m fine e =
     let r : Right budget limit b (Follows b) 0 (left b + H) false (over true m) = rw e at (round_right h Fine left H L budget limit x b n fine) in
-    ⊎_elim (λ z. absurd (false≢true z)) (λ z. omega arith) (r.2 refl)
+    grind (arith, r.2 refl)

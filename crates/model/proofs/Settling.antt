@@ -2,8 +2,8 @@
 use Rattle.std.proofs.Common.{◌≡◌, ℕ, zero, suc, ◌<◌, ◌≤◌, Some, None, Option, sym, refl, ap, ◌∙◌, subst, arith}
 use Rattle.model.specs.Bays.{Bay, items_at, taken_from, crates}
 use Rattle.model.specs.Targets.{target}
-use Rattle.model.specs.Moves.{settle, settle_for, settle_at, settle_on}
-use Rattle.model.proofs.Targets.{same_pair, is_target, Seen, seen, nothing, something}
+use Rattle.model.specs.Moves.{stack_of, settle, settle_for, settle_at}
+use Rattle.model.proofs.Targets.{is_target, Seen, seen, nothing, something}
 use Rattle.model.proofs.Changes.{topped_if, taken, taken_crates}
 
 -- no target, or not on top
@@ -41,17 +41,12 @@ still_empty b le = by (seen b)
     by (nothing q _) = still_none b q
     by (something k i a t q) = absurd (omega (arith, some_crate b (suc i) a q))
 
-settles_on : (n : ℕ) (b : Bay) (s a : ℕ) → target b ≡ Some (s, a)
-    → (target b ≡ Some (s, 0) → Settles (taken_from b s) (settle_for n (taken_from b s)))
-    → Settles b (settle_on (settle_for n) b s a)
-settles_on n b s zero e ih = step s e (ih e)
-settles_on n b s (suc a) e ih = stop (still_some b s a e)
-
 settles_at : (n : ℕ) (b : Bay) (o : Option (ℕ × ℕ)) → target b ≡ o
     → ((s : ℕ) → target b ≡ Some (s, 0) → Settles (taken_from b s) (settle_for n (taken_from b s)))
     → Settles b (settle_at (settle_for n) b o)
 settles_at n b None e ih = stop (still_none b e)
-settles_at n b (Some t) e ih = settles_on n b t.0 t.1 e (ih t.0)
+settles_at n b (Some (s, zero)) e ih = step s e (ih s e)
+settles_at n b (Some (s, suc a)) e ih = stop (still_some b s a e)
 
 settles_for : (n : ℕ) (b : Bay) → crates b ≤ n → Settles b (settle_for n b)
 settles_for zero b le = stop (still_empty b le)
@@ -63,14 +58,6 @@ unfolding settle
 settles b = settles_for (crates b) b (omega arith)
 
 -- settling is determined
-none_some : (b : Bay) (t : ℕ × ℕ) → target b ≡ None → target b ≡ Some t → ⊥
-none_some b t p q = let z : ◌≡◌ {A = ℕ} 0 1 = cc in omega arith
-
-same_target : (b : Bay) (s a s' a' : ℕ) → target b ≡ Some (s, a) → target b ≡ Some (s', a') → (s ≡ s') × (a ≡ a')
-same_target b s a s' a' p q =
-    let e : (s, a) ≡ (s', a') = same_pair (s, a) (s', a') (sym p ∙ q) in
-    (ap (λ (x : ℕ × ℕ). x.0) e, ap (λ (x : ℕ × ℕ). x.1) e)
-
 moving : (b : Bay) (s : ℕ) → target b ≡ Some (s, 0) → Still (target b) → ⊥
 moving b s e w = let z : 0 < 0 = rw e at w in omega arith
 
@@ -79,7 +66,7 @@ one_end (stop w) d (stop v) = refl
 one_end (stop w) d (step s e r) = absurd (moving _ s e w)
 one_end (step s e r) d (stop v) = absurd (moving _ s e v)
 one_end (step {b} {b'} s e r) d (step s' e' r') =
-    one_end r d (subst (λ x. Settles (taken_from b x) d) (same_target b s' 0 s 0 e' e).0 r')
+    one_end r d (subst (λ x. Settles (taken_from b x) d) (ap stack_of (sym e' ∙ e)) r')
 
 pub settled : (b : Bay) → Still (target (settle b))
 settled b = at (settles b)

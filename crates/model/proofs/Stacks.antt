@@ -1,10 +1,12 @@
 -- The crates of one stack: the earliest of them, and what stands above it.
-use Rattle.std.proofs.Common.{◌≡◌, ℕ, suc, ◌-◌, ◌<◌, ◌≤◌, min, cond, eqb, ◌⊎◌, List, [], ◌∷◌, ◌++◌, length, refl, ap, inl, inr, arith}
-use Rattle.std.proofs.lemmas.Bool.{eq-eqb, ne_eqb, cases_eq}
+use Rattle.std.proofs.Common.{◌≡◌, ℕ, suc, ◌-◌, ◌<◌, ◌≤◌, min, List, [], ◌∷◌, ◌++◌, length, refl, ap, arith}
 use Rattle.std.proofs.lemmas.Bool.Decides.{nat_tests}
 use Rattle.std.proofs.lemmas.List.{length_push, get_or_push, take_at}
-use Rattle.model.specs.Bays.{Slot, top_slot, without_top, no_slot}
+use Rattle.model.specs.Bays.{Stack, Slot, top_slot, without_top, no_slot}
 use Rattle.model.specs.Targets.{lateness, lowest, above_of}
+
+abbrev pub slots_of : Stack → List Slot
+slots_of s = s.items
 
 pub lowest_snoc : (xs : List Slot) (y : Slot) → lowest (xs ++ y ∷ []) ≡ min (lateness y.call) (lowest xs)
 lowest_snoc [] y = refl
@@ -21,20 +23,11 @@ above_le k x (z ∷ zs) = let ih : above_of k (z ∷ zs) ≤ length zs = above_l
 pub above_snoc : (k : ℕ) (xs : List Slot) (y : Slot) → k < 65536 → k < lateness y.call → lowest xs ≡ k
     → above_of k (xs ++ y ∷ []) ≡ suc (above_of k xs)
 above_snoc k [] y lt ly e = absurd (omega arith)
-above_snoc k (x ∷ xs) y lt ly e = by (above_snoc k xs y lt ly) (cases_eq (lowest xs) k)
-  where
-    low : lowest (xs ++ y ∷ []) ≡ min (lateness y.call) (lowest xs)
-    low = lowest_snoc xs y
-
-    by : (lowest xs ≡ k → above_of k (xs ++ y ∷ []) ≡ suc (above_of k xs)) → (lowest xs ≡ k) ⊎ (lowest xs ≡ k → ⊥)
-        → cond (eqb (lowest (xs ++ y ∷ [])) k) (above_of k (xs ++ y ∷ [])) (length (xs ++ y ∷ [])) ≡ suc (cond (eqb (lowest xs) k) (above_of k xs) (length xs))
-    by ih (inl q) = rw (eq-eqb (lowest (xs ++ y ∷ [])) k (omega (arith, low)), eq-eqb (lowest xs) k q) (ih q)
-    by ih (inr q) = rw (ne_eqb (lowest (xs ++ y ∷ [])) k (λ z. q (omega (arith, low))), ne_eqb (lowest xs) k q) (omega (arith, length_push xs y))
+above_snoc k (x ∷ xs) y lt ly e = grind (arith, nat_tests, lowest_snoc xs y, length_push xs y, above_snoc k xs y lt ly)
 
 pub above_top : (k : ℕ) (xs : List Slot) (y : Slot) → lateness y.call ≡ k → k ≤ lowest xs → above_of k (xs ++ y ∷ []) ≡ 0
 above_top k [] y ly e = grind (arith, nat_tests)
-above_top k (x ∷ xs) y ly e =
-    rw (eq-eqb (lowest (xs ++ y ∷ [])) k (omega (arith, lowest_snoc xs y))) (above_top k xs y ly (omega arith))
+above_top k (x ∷ xs) y ly e = grind (arith, nat_tests, lowest_snoc xs y, above_top k xs y ly (omega arith))
 
 -- a list that is not empty, seen from its end
 pub record Topped (xs : List Slot) : Type 0 where

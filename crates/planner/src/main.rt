@@ -1,6 +1,13 @@
 #![tactic(auto)]
 
-use anyhow::anyhow;
+ghost use Rattle.std.specs.Prelude.{◌≡◌};
+ghost use Rattle.bay.specs.Shown.{shown};
+ghost use Rattle.model.specs.Carrying.{LegalRun, after_all};
+ghost use Rattle.model.specs.Search.{searched};
+ghost use Rattle.search.specs.Told.{told, plan_in};
+ghost use Rattle.planner.specs.Plan.{bound_of, move_of, moves_of, Makes};
+
+use anyhow::Context;
 use bay::work::WorkBay;
 use bounds::blocking::BlockingCount;
 use bounds::look_ahead::LookAhead;
@@ -10,16 +17,19 @@ use search::deepening::search;
 use search::moves::Move;
 use search::outcome::{Kind, Outcome};
 use search::workspace::Workspace;
+use std::alloc::Global;
 use std::io;
 use std::io::Read;
 use std::process::ExitCode;
 use text::picture::Picture;
 use text::read::read_requests;
 use text::request::{BoundChoice, Request};
-use text::words::{MoveWords, OutcomeWords};
 
-// The outcome of the search that a request asks for; the plan is left in the workspace.
-fn plan(request: &Request, space: &mut Workspace) -> Outcome {
+// The outcome of the search that a request asks for; the plan is left in the workspace. Each bound is another type.
+fn plan(request: &Request, space: &mut Workspace) -> Outcome
+    ensures { told result (plan_in space.new)
+        ≡ searched (bound_of request.now.bound) request.now.budget (shown request.now.bay) }
+{
     match request.bound {
         BoundChoice::Null => search(&request.bay, &NullBound, request.budget, space),
         BoundChoice::Blocking => search(&request.bay, &BlockingCount, request.budget, space),
@@ -27,61 +37,73 @@ fn plan(request: &Request, space: &mut Workspace) -> Outcome {
     }
 }
 
-fn make(bay: &mut WorkBay, made: Move) {
-    match made {
-        Move::Relocate { to, .. } => {
-            let _ = bay.relocate(to);
-        }
-        Move::Retrieve { .. } => {
-            let _ = bay.retrieve();
-        }
-    }
+// Makes a move that the search told.
+fn make(bay: &mut WorkBay, made: Move)
+    ensures { Makes (move_of made) (shown bay.old) (shown bay.new) }
+{
+    let _ = match made {
+        Move::Relocate { to, .. } => bay.relocate(to),
+        Move::Retrieve { .. } => bay.retrieve(),
+    };
 }
 
-fn print_moves(rt: &HostRuntime, bay: &mut WorkBay, list: &[Move]) -> io::Result<()> {
-    for (i, made) in list.iter().enumerate() {
-        let number = i.saturating_add(1);
-        println!(rt; "  {number:>3}. {}", MoveWords { made: *made })?;
-        make(bay, *made);
+// The bay after moves that the search told: where each is legal, it is made.
+fn after(bay: &WorkBay, list: &[Move]) -> WorkBay
+    ensures { LegalRun (shown bay.now) (moves_of list.now)
+        → shown result ≡ after_all (shown bay.now) (moves_of list.now) }
+{
+    let mut here = *bay;
+    for made in list {
+        make(&mut here, *made);
+    }
+    here
+}
+
+fn print_moves(rt: &impl Print, list: &[Move]) -> io::Result<()> {
+    for (number, made) in (1..).zip(list) {
+        println!(rt; "  {number:>3}. {made}")?;
     }
     Ok(())
 }
 
-fn answer(rt: &HostRuntime, request: &Request, space: &mut Workspace) -> anyhow::Result<()> {
+fn answer(
+    rt: &impl Print,
+    alloc: Global,
+    request: &Request,
+    space: &mut Workspace,
+) -> anyhow::Result<()> {
     let outcome = plan(request, space);
-    let mut bay = request.bay;
+    let bay = &request.bay;
     println!(rt; "The bay:")?;
-    print!(rt; "{}", Picture { bay: &bay })?;
-    println!(rt; "{}", OutcomeWords { outcome })?;
+    print!(rt; "{}", Picture { bay })?;
+    println!(rt; "{outcome}")?;
     if let Kind::Fewest(_) = outcome.kind {
-        let list = moves(rt.alloc(), &request.bay, space.destinations())?;
-        print_moves(rt, &mut bay, list.as_slice())?;
+        let list = moves(alloc, bay, space.destinations())?;
+        print_moves(rt, &list)?;
         println!(rt; "The bay after the last move:")?;
-        print!(rt; "{}", Picture { bay: &bay })?;
+        let last = after(bay, &list);
+        print!(rt; "{}", Picture { bay: &last })?;
     }
     Ok(())
 }
 
-fn run(rt: &HostRuntime) -> anyhow::Result<()> {
-    let mut bytes = Vec::new(rt.alloc());
-    rt.stdin().read_to_end(&mut bytes)?;
-    let Ok(text) = std::str::from_utf8(bytes.as_slice()) else {
-        return Err(anyhow!("the input is not UTF-8 text: write the bay as lines of words."));
-    };
-    let requests = match read_requests(rt.alloc(), text) {
-        Ok(requests) => requests,
-        Err(fault) => return Err(anyhow!(format!(in rt.alloc(); "{fault}")?)),
-    };
-    let mut space = Workspace::new(rt.alloc())?;
-    for request in requests.iter() {
-        answer(rt, request, &mut space)?;
+fn run(rt: &impl Print, alloc: Global, input: &mut impl Read) -> anyhow::Result<()> {
+    let mut bytes = Vec::new(alloc);
+    input.read_to_end(&mut bytes)?;
+    let text = str::from_utf8(&bytes).context(
+        "the input is not UTF-8 text: write the bay as lines of words.",
+    )?;
+    let requests = read_requests(alloc, text)?;
+    let mut space = Workspace::new(alloc)?;
+    for request in &requests {
+        answer(rt, alloc, request, &mut space)?;
     }
     Ok(())
 }
 
 // A fault is one line on standard error. That even that line may not be written changes nothing: the status says it.
 fn main(rt: HostRuntime) -> ExitCode {
-    match run(&rt) {
+    match run(&rt, rt.alloc(), &mut rt.stdin()) {
         Ok(()) => ExitCode::SUCCESS,
         Err(fault) => {
             let _ = eprintln!(rt; "planner: {fault}");

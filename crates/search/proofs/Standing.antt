@@ -1,9 +1,12 @@
 -- Where the loop of a round stands, and what the round comes to from there.
 use Rattle.std.proofs.Common.{◌≡◌, ℕ, suc, ◌+◌, ◌<◌, ◌≤◌, Bool, true, false, cond, ◌≢◌, List, [], ◌∷◌, ◌++◌, length, Some, None, sym, refl, ap, ◌∙◌, subst, append_assoc, append-nil, add-one, arith}
-use Rattle.std.proofs.lemmas.List.{map_push}
+use Rattle.std.specs.List.{All}
+use Rattle.std.proofs.lemmas.List.{map_push, length_push}
+use Rattle.std.proofs.lemmas.List.Elements.{All-nil, All-push, All-pop}
 use Rattle.bay.specs.declared.work.WorkBay.{WorkBay}
 use Rattle.bay.specs.Ask.{opens}
 use Rattle.bay.specs.Shown.{shown}
+use Rattle.bay.proofs.Bays.{work_sound}
 use Rattle.model.specs.Bays.{Bay}
 use Rattle.model.specs.Targets.{target}
 use Rattle.model.specs.Search.{ways, ways_at, next, Round, found, spent, over}
@@ -47,17 +50,25 @@ pub record Held (x : Frame) : Type 0 where
   pub low : 0 < x.destination
   pub aims : Aims (shown x.bay) x.source
 
-abbrev pub Kept : List Frame → Type 0
-Kept [] = Unit {0}
-Kept (x ∷ xs) = Held x × Kept xs
-
-pub record Fit (budget limit : ℕ) (items : List Frame) (here : WorkBay) (s d n : ℕ) : Type 0 where
+-- the frames and the bay can be gone on with
+pub record Fit (limit : ℕ) (items : List Frame) (at : Frame) : Type 0 where
   pub depth : length items ≤ limit
-  pub kept : Kept items
-  pub aims : Aims (shown here) s
+  pub kept : All Held items
+  pub aims : Aims (shown at.bay) at.source
+
+-- the loop stands at stack d of a bay, and what the whole round comes to is what it comes to from there
+pub record Stands (h : Bay → ℕ) (budget limit : ℕ) (start : WorkBay) (made : ℕ) (items : List Frame) (at : Frame) (d : ℕ) (cut : Bool) (n : ℕ) : Type 0 where
+  pub is : round_from h budget limit (shown start) made ≡ standing h budget limit items at.bay at.source d cut n
+  pub fit : Fit limit items at
   pub low : 0 < d
-  pub high : d ≤ 13
   pub tries : n ≤ budget
+
+-- a try at stack d, which leads to the settled bay v
+pub record Tried (budget : ℕ) (at : Frame) (d n : ℕ) (v : WorkBay) : Type 0 where
+  pub there : d ≤ length (shown at.bay)
+  pub way : opens (shown at.bay) at.source d ≡ true
+  pub left : n ≢ budget
+  pub after : shown v ≡ next (shown at.bay) d
 
 pile_snoc : (acc : List Level) (items : List Frame) (x : Frame) → pile_on acc (items ++ x ∷ []) ≡ level x ∷ pile_on acc items
 pile_snoc acc [] x = refl
@@ -70,14 +81,6 @@ pile_length acc (y ∷ items) = omega (arith, pile_length (level y ∷ acc) item
 pile_path : (acc : List Level) (items : List Frame) → path (pile_on acc items) ≡ path acc ++ framed items
 pile_path acc [] = sym (append-nil (path acc))
 pile_path acc (y ∷ items) = pile_path (level y ∷ acc) items ∙ append_assoc (path acc) (y.destination ∷ []) (framed items)
-
-pub kept_push : (items : List Frame) (x : Frame) → Kept items → Held x → Kept (items ++ x ∷ [])
-kept_push [] x k l = (l, tt)
-kept_push (y ∷ items) x k l = (k.0, kept_push items x k.1 l)
-
-pub kept_pop : (items : List Frame) (x : Frame) → Kept (items ++ x ∷ []) → Kept items × Held x
-kept_pop [] x k = (tt, k.0)
-kept_pop (y ∷ items) x k = let r = kept_pop items x k.1 in ((k.0, r.0), r.1)
 
 module _ (h : Bay → ℕ) (budget limit : ℕ) where
   -- a standing over its pile, with the depth as the pile's length
@@ -100,17 +103,17 @@ module _ (h : Bay → ℕ) (budget limit : ℕ) where
     here = standing h budget limit items w s d cut n
 
     -- a stack that is passed over
-    pub standing_skip : d ≤ length (shown w) → opens (shown w) s d ≡ false → here ≡ standing h budget limit items w s (d + 1) cut n
+    standing_skip : d ≤ length (shown w) → opens (shown w) s d ≡ false → here ≡ standing h budget limit items w s (d + 1) cut n
     unfolding standing
     standing_skip l e =
         ap (λ os. unwind h budget limit (pile_on [] items) (along h budget limit (length items) (shown w) os cut n)) (left_shut (shown w) s d p l e ∙ ap (remaining (shown w) s) (sym (add-one d)))
 
     -- no try is left
-    pub standing_spent : d ≤ length (shown w) → opens (shown w) s d ≡ true → n ≡ budget → here ≡ spent n
+    standing_spent : d ≤ length (shown w) → opens (shown w) s d ≡ true → n ≡ budget → here ≡ spent n
     standing_spent l e q = over_open items w s d cut n p l e ∙ loop_spent h budget limit (pile_on [] items) (shown w) d (remaining (shown w) s (suc d)) cut n q
 
     -- a try that is cut
-    pub standing_cut : d ≤ length (shown w) → opens (shown w) s d ≡ true → n ≢ budget → limit < length items + 1 + h (next (shown w) d)
+    standing_cut : d ≤ length (shown w) → opens (shown w) s d ≡ true → n ≢ budget → limit < length items + 1 + h (next (shown w) d)
         → here ≡ standing h budget limit items w s (d + 1) true (n + 1)
     standing_cut l e ne lt =
         over_open items w s d cut n p l e
@@ -119,7 +122,7 @@ module _ (h : Bay → ℕ) (budget limit : ℕ) where
         ∙ rw (add-one d, add-one n)
 
     -- a try that ends with a plan
-    pub standing_found : d ≤ length (shown w) → opens (shown w) s d ≡ true → n ≢ budget → length items + 1 + h (next (shown w) d) ≤ limit
+    standing_found : d ≤ length (shown w) → opens (shown w) s d ≡ true → n ≢ budget → length items + 1 + h (next (shown w) d) ≤ limit
         → None ≡ target (next (shown w) d)
         → here ≡ found (framed (items ++ record { bay = w; source = s; destination = d } ∷ [])) (n + 1)
     standing_found l e ne le q =
@@ -129,7 +132,7 @@ module _ (h : Bay → ℕ) (budget limit : ℕ) where
         ∙ rw (add-one n)
 
     -- a try that is gone into
-    pub standing_deeper : d ≤ length (shown w) → opens (shown w) s d ≡ true → n ≢ budget → length items + 1 + h (next (shown w) d) ≤ limit
+    standing_deeper : d ≤ length (shown w) → opens (shown w) s d ≡ true → n ≢ budget → length items + 1 + h (next (shown w) d) ≤ limit
         → (v : WorkBay) (t : ℕ) → shown v ≡ next (shown w) d → Aims (shown v) t
         → here ≡ standing h budget limit (items ++ record { bay = w; source = s; destination = d } ∷ []) v t 1 cut (n + 1)
     standing_deeper l e ne le v t ev a =
@@ -144,7 +147,7 @@ module _ (h : Bay → ℕ) (budget limit : ℕ) where
         ∙ rw (add-one n)
 
     -- no stack is left: back to the bay before
-    pub standing_back : length (shown w) < d → (x : Frame)
+    standing_back : length (shown w) < d → (x : Frame)
         → standing h budget limit (items ++ x ∷ []) w s d cut n ≡ standing h budget limit items x.bay x.source (x.destination + 1) cut n
     standing_back l x =
         over_pile (items ++ x ∷ []) w s d cut n
@@ -153,13 +156,95 @@ module _ (h : Bay → ℕ) (budget limit : ℕ) where
         ∙ sym (over_pile items x.bay x.source (suc x.destination) cut n)
         ∙ rw (add-one x.destination)
 
-    pub standing_over : length (shown w) < d → standing h budget limit [] w s d cut n ≡ over cut n
+    standing_over : length (shown w) < d → standing h budget limit [] w s d cut n ≡ over cut n
     unfolding standing
     standing_over l = ap (λ os. unwind h budget limit [] (along h budget limit 0 (shown w) os cut n)) (remaining_end (shown w) s d l)
 
-  -- a round that began with nothing kept
-  pub from_start : (empty : List Frame) (w : WorkBay) (s n : ℕ) (r : Round) → empty ≡ [] → Aims (shown w) s
-      → standing h budget limit empty w s 1 false n ≡ r → r ≡ round_from h budget limit (shown w) n
+  -- a round begins with nothing kept
+  from_start : (w : WorkBay) (s n : ℕ) → Aims (shown w) s → round_from h budget limit (shown w) n ≡ standing h budget limit [] w s 1 false n
   unfolding round_from standing
-  from_start empty w s n r e a q =
-      sym (whole_open h budget limit 0 (shown w) (remaining (shown w) s 1) false n (ways_open (shown w) s a) ∙ ap (λ l. standing h budget limit l w s 1 false n) (sym e) ∙ q)
+  from_start w s n a = whole_open h budget limit 0 (shown w) (remaining (shown w) s 1) false n (ways_open (shown w) s a)
+
+pub begun : {h : Bay → ℕ} {budget limit : ℕ} (w : WorkBay) (s n : ℕ) {items : List Frame} → items ≡ [] → Aims (shown w) s → n ≤ budget
+    → Stands h budget limit w n items (record { bay = w; source = s; destination = 1 }) 1 false n
+begun {h = h} {budget = budget} {limit = limit} w s n e a l =
+    record {
+      is = from_start h budget limit w s n a ∙ ap (λ fs. standing h budget limit fs w s 1 false n) (sym e);
+      fit = record { depth = omega (arith, ap length e); kept = subst (All Held) (sym e) (All-nil Held); aims = a };
+      low = omega arith;
+      tries = l;
+    }
+
+module _ {h : Bay → ℕ} {budget limit : ℕ} {start : WorkBay} {made : ℕ} {items : List Frame} {at : Frame} {d : ℕ} {cut : Bool} {n : ℕ} (u : Stands h budget limit start made items at d cut n) where
+  -- a stack that is passed over
+  pub skipped : d ≤ length (shown at.bay) → opens (shown at.bay) at.source d ≡ false → Stands h budget limit start made items at (d + 1) cut n
+  skipped l e =
+      record {
+        is = u.is ∙ standing_skip h budget limit items at.bay at.source d cut n u.low l e;
+        fit = u.fit;
+        low = omega arith;
+        tries = u.tries;
+      }
+
+  -- no try is left
+  pub used_up : d ≤ length (shown at.bay) → opens (shown at.bay) at.source d ≡ true → n ≡ budget → round_from h budget limit (shown start) made ≡ spent n
+  used_up l e q = u.is ∙ standing_spent h budget limit items at.bay at.source d cut n u.low l e q
+
+  -- a try that is cut
+  pub held_back : {v : WorkBay} → Tried budget at d n v → limit < length items + 1 + h (shown v) → Stands h budget limit start made items at (d + 1) true (n + 1)
+  held_back t lt =
+      record {
+        is = u.is ∙ standing_cut h budget limit items at.bay at.source d cut n u.low t.there t.way t.left (omega (arith, ap h t.after));
+        fit = u.fit;
+        low = omega arith;
+        tries = omega (arith, u.tries, t.left);
+      }
+
+  -- a try that ends with a plan
+  pub planned : {v : WorkBay} {items' : List Frame} → Tried budget at d n v → items' ≡ items ++ record { bay = at.bay; source = at.source; destination = d } ∷ []
+      → length items + 1 + h (shown v) ≤ limit → None ≡ target (shown v) → round_from h budget limit (shown start) made ≡ found (framed items') (n + 1)
+  planned t i le q =
+      u.is ∙ standing_found h budget limit items at.bay at.source d cut n u.low t.there t.way t.left (omega (arith, ap h t.after)) (q ∙ ap target t.after)
+      ∙ ap (λ fs. found (framed fs) (n + 1)) (sym i)
+
+  -- a try that is gone into
+  pub deeper : {v : WorkBay} {s : ℕ} {items' : List Frame} → Tried budget at d n v → items' ≡ items ++ record { bay = at.bay; source = at.source; destination = d } ∷ []
+      → length items + 1 + h (shown v) ≤ limit → Aims (shown v) s
+      → Stands h budget limit start made items' (record { bay = v; source = s; destination = 1 }) 1 cut (n + 1)
+  deeper {v = v} {s = s} t i le a =
+      let x : Frame = record { bay = at.bay; source = at.source; destination = d } in
+      record {
+        is =
+            u.is ∙ standing_deeper h budget limit items at.bay at.source d cut n u.low t.there t.way t.left (omega (arith, ap h t.after)) v s t.after a
+            ∙ ap (λ fs. standing h budget limit fs v s 1 cut (n + 1)) (sym i);
+        fit =
+            record {
+              depth = omega (arith, ap length i, length_push items x);
+              kept = subst (All Held) (sym i) (All-push Held items x u.fit.kept (record { high = omega (arith, t.there, (work_sound at.bay).few); low = u.low; aims = u.fit.aims }));
+              aims = a;
+            };
+        low = omega arith;
+        tries = omega (arith, u.tries, t.left);
+      }
+
+  -- no stack is left: back to the bay before
+  pub back : (x : Frame) (items' : List Frame) → items ≡ items' ++ x ∷ [] → length (shown at.bay) < d
+      → (x.destination ≤ 12) × Stands h budget limit start made items' (record { bay = x.bay; source = x.source; destination = x.destination + 1 }) (x.destination + 1) cut n
+  back x items' i l =
+      let two = All-pop Held items items' (Some x) i u.fit.kept in (
+        two.1.high,
+        record {
+          is =
+              u.is
+              ∙ ap (λ fs. standing h budget limit fs at.bay at.source d cut n) i
+              ∙ standing_back h budget limit items' at.bay at.source d cut n u.low l x;
+          fit = record { depth = omega (arith, u.fit.depth, ap length i, length_push items' x); kept = two.0; aims = two.1.aims };
+          low = omega arith;
+          tries = u.tries;
+        },
+      )
+
+  -- no stack is left, and no bay before
+  pub through : items ≡ [] → length (shown at.bay) < d → round_from h budget limit (shown start) made ≡ over cut n
+  through i l =
+      u.is ∙ ap (λ fs. standing h budget limit fs at.bay at.source d cut n) i ∙ standing_over h budget limit [] at.bay at.source d cut n u.low l

@@ -1,11 +1,12 @@
 -- What the answers of a search mean.
-use Rattle.std.specs.Prelude.{ℕ, List, [], map}
+use Rattle.std.specs.Prelude.{ℕ, true, false, List, [], map}
 use Rattle.model.specs.Search as model
 use Rattle.search.specs.declared.outcome.Kind.{Kind}
 use Rattle.search.specs.declared.outcome.Kind.TheVariants.{Fewest, AtLeast, NoWay}
 use Rattle.search.specs.declared.outcome.Outcome.{Outcome}
 use Rattle.search.specs.declared.outcome.Ended.{Ended}
-use Rattle.search.specs.declared.outcome.Ended.TheVariants.{Found, Spent, Over}
+use Rattle.search.specs.declared.outcome.Ended.TheVariants.{Found, Spent, Cut, Over}
+use Rattle.search.specs.declared.outcome.Round.{Round}
 use Rattle.search.specs.declared.workspace.Frame.{Frame}
 use Rattle.search.specs.declared.workspace.Workspace.{Workspace}
 
@@ -20,7 +21,7 @@ told o ds = (kind_told o.kind ds, o.tries)
 
 -- the destinations that a workspace holds after a search, and those that an outcome has
 abbrev pub plan_in : Workspace → List ℕ
-plan_in w = w.destinations.items
+plan_in w = w.plan
 
 abbrev pub plan_of : model.Outcome → List ℕ
 plan_of (model.fewest n ds) = ds
@@ -31,12 +32,11 @@ plan_of model.no_way = []
 abbrev pub framed : List Frame → List ℕ
 framed fs = map (λ (f : Frame). f.destination) fs
 
-abbrev pub end_told : Ended → List Frame → model.Round
-end_told (Found n) fs = model.found (framed fs) n
-end_told (Spent n) fs = model.spent n
-end_told (Over c n) fs = model.over c n
+abbrev pub ended_told : Ended → List Frame → ℕ → model.Round
+ended_told Found fs n = model.found (framed fs) n
+ended_told Spent fs n = model.spent n
+ended_told Cut fs n = model.over true n
+ended_told Over fs n = model.over false n
 
-abbrev pub tries_of : Ended → ℕ
-tries_of (Found n) = n
-tries_of (Spent n) = n
-tries_of (Over c n) = n
+abbrev pub end_told : Round → List Frame → model.Round
+end_told r fs = ended_told r.ended fs r.tries

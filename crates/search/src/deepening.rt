@@ -4,10 +4,9 @@ ghost use Rattle.model.specs.Claims.{Promised};
 ghost use Rattle.model.specs.Search.{searched};
 ghost use Rattle.search.specs.Told.{told, kind_told, plan_in, plan_of};
 
-use crate::outcome::{Ended, Kind, Outcome};
+use crate::outcome::{Ended, Kind, Outcome, Round};
 use crate::round::round;
 use crate::workspace::Workspace;
-use crate::workspace::plan::copy_destinations;
 use bay::work::WorkBay;
 use bounds::bound::LowerBound;
 
@@ -19,11 +18,11 @@ pub fn search<B: LowerBound>(
     budget: u32,
     space: &mut Workspace,
 ) -> Outcome
-    ensures value { told result (plan_in space.new) ≡ searched (B.LowerBound.value bound.now) budget (shown bay.now) }
+    ensures value { told result (plan_in space.new) ≡ searched (B.value bound.now) budget (shown bay.now) }
     ensures plan { plan_in space.new ≡ plan_of (kind_told result.kind (plan_in space.new)) }
-    ensures promise { Promised (B.LowerBound.value bound.now) budget (shown bay.now) (kind_told result.kind (plan_in space.new)) result.tries }
+    ensures promise { Promised (B.value bound.now) budget (shown bay.now) (kind_told result.kind (plan_in space.new)) result.tries }
 {
-    space.destinations.clear();
+    space.plan.clear();
     let mut start = *bay;
     let Some((source, _)) = start.settle() else {
         return Outcome {
@@ -33,8 +32,9 @@ pub fn search<B: LowerBound>(
     };
     let mut limit = bound.estimate(&start);
     let mut tries = 0;
-    'rounds: loop {
-        match round(
+    // Not a `for` over the limits: that would want an answer after the last one.
+    loop {
+        let Round { ended, tries: made } = round(
             &mut space.frames,
             &start,
             source,
@@ -42,29 +42,17 @@ pub fn search<B: LowerBound>(
             limit,
             budget,
             tries,
-        ) {
-            Ended::Found(tries) => {
-                copy_destinations(space.frames.as_slice(), &mut space.destinations);
-                let n = space.destinations.len() as u16;
-                return Outcome {
-                    kind: Kind::Fewest(n),
-                    tries,
-                };
-            }
-            Ended::Spent(tries) => return Outcome {
-                kind: Kind::AtLeast(limit),
-                tries,
-            },
-            Ended::Over(cut, made) => {
-                if !cut {
-                    return Outcome {
-                        kind: Kind::NoWay,
-                        tries: made,
-                    };
-                }
+        );
+        let kind = match ended {
+            Ended::Found => Kind::Fewest(space.keep_plan()),
+            Ended::Spent => Kind::AtLeast(limit),
+            Ended::Over => Kind::NoWay,
+            Ended::Cut => {
                 tries = made;
                 limit += 1;
+                continue;
             }
-        }
+        };
+        return Outcome { kind, tries: made };
     }
 }

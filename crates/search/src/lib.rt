@@ -4,5 +4,6 @@ pub mod carrying;
 pub mod deepening;
 pub mod moves;
 pub mod outcome;
+mod reserved;
 mod round;
 pub mod workspace;

@@ -4,4 +4,3 @@ pub mod fault;
 pub mod picture;
 pub mod read;
 pub mod request;
-pub mod words;

@@ -1,3 +1,4 @@
+use bay::slot::Slot;
 use bay::work::WorkBay;
 use std::fmt;
 
@@ -7,68 +8,45 @@ pub struct Picture<'a> {
     pub bay: &'a WorkBay,
 }
 
-// What stands at one tier of one stack.
-#[derive(Drop)]
-struct Place<'a> {
-    bay: &'a WorkBay,
-    stack: u8,
-    tier: u8,
-}
+impl Picture<'_> {
+    // The highest tier at which a crate stands.
+    fn highest(&self) -> u8 {
+        (1..=self.bay.count())
+            .map(|stack| self.bay.height(stack))
+            .max()
+            .unwrap_or(0)
+    }
 
-impl fmt::Display for Place<'_> {
-    fn fmt<W: fmt::Write>(&self, f: &mut fmt::Formatter<W>) -> fmt::Result {
-        let slot = self.bay.slot_at(self.stack, self.tier);
-        let c = slot.number.number;
-        let k = slot.call.number;
-        if c == 0 {
-            write!(f, "{:18}|", "")
-        } else if k == 0 {
-            write!(f, " {c:>10}       |")
-        } else {
-            write!(f, " {c:>10}:{k:<5} |")
+    // What stands at one tier of one stack.
+    fn write_place<W: fmt::Write>(
+        &self,
+        f: &mut fmt::Formatter<W>,
+        stack: u8,
+        tier: u8,
+    ) -> fmt::Result {
+        let Slot { number, call } = self.bay.slot_at(stack, tier);
+        match (number.number, call.number) {
+            (0, _) => write!(f, "{:18}|", ""),
+            (_, 0) => write!(f, " {number:>10}       |"),
+            _ => write!(f, " {number:>10}:{call:<5} |"),
         }
     }
-}
 
-#[derive(Drop)]
-struct Tier<'a> {
-    bay: &'a WorkBay,
-    tier: u8,
-}
-
-impl fmt::Display for Tier<'_> {
-    fn fmt<W: fmt::Write>(&self, f: &mut fmt::Formatter<W>) -> fmt::Result {
-        let tier = self.tier;
+    fn write_tier<W: fmt::Write>(&self, f: &mut fmt::Formatter<W>, tier: u8) -> fmt::Result {
         write!(f, "  tier {tier} |")?;
-        for s in 0..self.bay.count() {
-            write!(
-                f,
-                "{}",
-                Place {
-                    bay: self.bay,
-                    stack: s.saturating_add(1),
-                    tier
-                }
-            )?;
+        for stack in 1..=self.bay.count() {
+            self.write_place(f, stack, tier)?;
         }
         writeln!(f)
     }
-}
 
-// The line under the stacks: their numbers and clearances.
-#[derive(Drop)]
-struct Floor<'a> {
-    bay: &'a WorkBay,
-}
-
-impl fmt::Display for Floor<'_> {
-    fn fmt<W: fmt::Write>(&self, f: &mut fmt::Formatter<W>) -> fmt::Result {
+    // The line under the stacks: their numbers and clearances.
+    fn write_floor<W: fmt::Write>(&self, f: &mut fmt::Formatter<W>) -> fmt::Result {
         if self.bay.count() == 0 {
             return writeln!(f, "  (no stacks)");
         }
         write!(f, "         ")?;
-        for s in 0..self.bay.count() {
-            let stack = s.saturating_add(1);
+        for stack in 1..=self.bay.count() {
             let clearance = self.bay.clearance(stack);
             write!(f, "  stack {stack:<2} clear {clearance}")?;
         }
@@ -76,28 +54,11 @@ impl fmt::Display for Floor<'_> {
     }
 }
 
-// The highest tier at which a crate stands.
-fn highest(bay: &WorkBay) -> u8 {
-    let mut most = 0;
-    for s in 0..bay.count() {
-        most = bay.height(s.saturating_add(1)).max(most);
-    }
-    most
-}
-
 impl fmt::Display for Picture<'_> {
     fn fmt<W: fmt::Write>(&self, f: &mut fmt::Formatter<W>) -> fmt::Result {
-        let top = highest(self.bay);
-        for down in 0..top {
-            write!(
-                f,
-                "{}",
-                Tier {
-                    bay: self.bay,
-                    tier: top - down
-                }
-            )?;
+        for tier in (1..=self.highest()).rev() {
+            self.write_tier(f, tier)?;
         }
-        write!(f, "{}", Floor { bay: self.bay })
+        self.write_floor(f)
     }
 }

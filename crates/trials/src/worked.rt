@@ -1,3 +1,4 @@
+use bay::faults::BuildFault;
 use bay::slot::Slot;
 use bay::work::WorkBay;
 use bounds::blocking::BlockingCount;
@@ -6,41 +7,46 @@ use bounds::look_ahead::LookAhead;
 use bounds::null::NullBound;
 use model::numbers::{CallNumber, CrateNumber};
 use search::deepening::search;
-use search::outcome::Kind;
+use search::outcome::{Kind, Outcome};
 use search::workspace::Workspace;
+use std::fmt::Debug;
+use std::ops::RangeFrom;
 use std::test::Fail;
 
-// A failure of the test that says what was expected.
-fn check(holds: bool, what: &'static str) -> Result<(), Fail> {
-    if holds { Ok(()) } else { Err(Fail::new(what)) }
+// A failure of the test that shows what was found and what was expected.
+fn check_eq<T: PartialEq + Debug + Drop>(found: T, expected: T) -> Result<(), Fail> {
+    if found == expected {
+        Ok(())
+    } else {
+        Err(Fail::new(format_args!("found {found:?}, expected {expected:?}")))
+    }
 }
 
 // A bay by its clearance and the calls of its stacks, bottom first, 0 for uncalled; crates are numbered as they are laid down.
-fn bay_of(clearance: u8, stacks: &[&[u16]]) -> Result<WorkBay, Fail> {
+fn bay_of(clearance: u8, stacks: &[&[u16]]) -> Result<WorkBay, BuildFault> {
     let mut bay = WorkBay::new();
-    let mut number: u32 = 0;
-    for calls in stacks {
-        check(bay.add_stack(clearance).is_ok(), "a stack more")?;
-        number = fill(&mut bay, number, calls)?;
+    let mut numbers = 1..;
+    for (place, calls) in (1..).zip(stacks) {
+        bay.add_stack(clearance)?;
+        fill(&mut bay, place, calls, &mut numbers)?;
     }
     Ok(bay)
 }
 
-fn fill(bay: &mut WorkBay, last: u32, calls: &[u16]) -> Result<u32, Fail> {
-    let mut number = last;
-    for call in calls {
-        number = number.saturating_add(1);
-        let s = bay.count();
-        let added = bay.add_crate(
-            s,
-            Slot {
-                number: CrateNumber { number },
-                call: CallNumber { number: *call },
-            },
-        );
-        check(added.is_ok(), "a crate more")?;
+fn fill(
+    bay: &mut WorkBay,
+    place: u8,
+    calls: &[u16],
+    numbers: &mut RangeFrom<u32>,
+) -> Result<(), BuildFault> {
+    for (call, number) in calls.iter().zip(numbers) {
+        let slot = Slot {
+            number: CrateNumber { number },
+            call: CallNumber { number: *call },
+        };
+        bay.add_crate(place, slot)?;
     }
-    Ok(number)
+    Ok(())
 }
 
 // Holds a search to its outcome, its tries and its destinations.
@@ -51,18 +57,12 @@ fn expect<B: LowerBound>(
     budget: u32,
     kind: Kind,
     tries: u32,
-    destinations: &[u8],
+    plan: &[u8],
 ) -> Result<(), Fail> {
     let mut space = Workspace::new(rt.alloc())?;
     let outcome = search(bay, bound, budget, &mut space);
-    check(outcome.tries == tries, "the number of tries")?;
-    check(space.destinations() == destinations, "the destinations")?;
-    match (outcome.kind, kind) {
-        (Kind::Fewest(n), Kind::Fewest(m)) => check(n == m, "the number of relocations"),
-        (Kind::AtLeast(n), Kind::AtLeast(m)) => check(n == m, "the number of relocations"),
-        (Kind::NoWay, Kind::NoWay) => Ok(()),
-        _ => Err(Fail::new("another kind of outcome")),
-    }
+    check_eq(outcome, Outcome { kind, tries })?;
+    check_eq(space.destinations(), plan)
 }
 
 // The same outcome under the null bound, the blocking count and the look-ahead, after so many tries each.
@@ -71,19 +71,12 @@ fn expect_all(
     bay: &WorkBay,
     kind: Kind,
     tries: [u32; 3],
-    destinations: &[u8],
+    plan: &[u8],
 ) -> Result<(), Fail> {
-    expect(rt, bay, &NullBound, 1000000, kind, tries[0], destinations)?;
-    expect(
-        rt,
-        bay,
-        &BlockingCount,
-        1000000,
-        kind,
-        tries[1],
-        destinations,
-    )?;
-    expect(rt, bay, &LookAhead, 1000000, kind, tries[2], destinations)
+    let [null, blocking, look_ahead] = tries;
+    expect(rt, bay, &NullBound, 1000000, kind, null, plan)?;
+    expect(rt, bay, &BlockingCount, 1000000, kind, blocking, plan)?;
+    expect(rt, bay, &LookAhead, 1000000, kind, look_ahead, plan)
 }
 
 #[test]
@@ -126,7 +119,7 @@ fn budgets_around_the_last_try(rt: HostRuntime) -> Result<(), Fail> {
 #[test]
 fn free_stack_without_clearance(rt: HostRuntime) -> Result<(), Fail> {
     let mut bay = bay_of(2, &[&[1, 2]])?;
-    check(bay.add_stack(0).is_ok(), "a stack more")?;
+    bay.add_stack(0)?;
     expect_all(&rt, &bay, Kind::NoWay, [0, 0, 0], &[])
 }
 

@@ -9,7 +9,7 @@ ghost use Rattle.bay.specs.Target.{best_shown};
 
 use crate::candidate::Best;
 use crate::faults::Label;
-use crate::slot::Slot;
+use crate::slot::{Slot, UNCALLED};
 use crate::stack::Stack;
 
 impl Stack {
@@ -50,10 +50,10 @@ impl Stack {
     }
 
     // The lateness of the earliest crate; that of an uncalled crate if none is called.
-    pub fn earliest(&self) -> u32
+    pub(crate) fn earliest(&self) -> u32
         ensures { result ≡ lowest (stack_shown self.now).items }
     {
-        let mut low = 65536;
+        let mut low = UNCALLED;
         for slot in self.slots() {
             low = slot.lateness().min(low);
         }
@@ -84,6 +84,7 @@ impl Stack {
         while let [slot, above @ ..] = rest {
             best = best.better(Best {
                 late: slot.lateness(),
+                // Narrowed: a stack holds at most eight.
                 above: above.len() as u8,
                 stack: s,
             });

@@ -1,11 +1,12 @@
 ghost use Rattle.std.specs.Prelude.{◌≡◌, ◌<◌, ◌≤◌, suc, true, false, length, map, MatchOption};
 ghost use Rattle.model.specs.Bays.{is_there, stack_at, top_slot};
+ghost use Rattle.model.specs.Targets.{lowest};
 ghost use Rattle.bay.specs.Ask.{height_at, slot_in, opens};
 ghost use Rattle.bay.specs.Shown.{shown};
 ghost use Rattle.bay.specs.Slots.{slot_shown};
 ghost use Rattle.bay.specs.Stacks.{stack_shown};
 
-use crate::slot::Slot;
+use crate::slot::{Slot, UNCALLED};
 use crate::stack::Stack;
 use crate::work::WorkBay;
 
@@ -75,6 +76,13 @@ impl WorkBay {
     {
         self.stack(s)
             .map_or(Slot::empty(), |stack| stack.slot(tier))
+    }
+
+    // The lateness of the earliest crate of a stack; that of an uncalled crate if none is called.
+    pub fn earliest(&self, s: u8) -> u32
+        ensures { result ≡ lowest (stack_at (shown self.now) s).items }
+    {
+        self.stack(s).map_or(UNCALLED, |stack| stack.earliest())
     }
 
     // Whether a crate of stack `from` may go to stack `to`.

@@ -6,6 +6,7 @@ ghost use Rattle.bay.specs.Shown.{shown};
 
 use crate::candidate::Best;
 use crate::faults::Label;
+use crate::slot::UNCALLED;
 use crate::work::WorkBay;
 
 impl WorkBay {
@@ -15,10 +16,10 @@ impl WorkBay {
         ensures means { TargetMeans (shown self.now) result }
     {
         let mut best = Best::nobody();
-        for (row, stack) in self.stacks().iter().enumerate() {
-            best = stack.best(row as u8 + 1, best);
+        for (s, stack) in (1..).zip(self.stacks()) {
+            best = stack.best(s, best);
         }
-        if best.late < 65536 {
+        if best.late < UNCALLED {
             Some((best.stack, best.above))
         } else {
             None
