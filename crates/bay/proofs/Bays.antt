@@ -94,6 +94,10 @@ module _ (w : WorkBay) where
 past : (b : Bay) (i : ℕ) → is_there b (suc i) ≡ false → length b ≤ i
 past b i e = grind (arith, nat_tests)
 
+-- the place of a stack that is there, as the code counts it
+pub placed : (w : WorkBay) (s n : ℕ) → n ≡ s → is_there (shown w) s ≡ true → (n - 1 < w.count) × (suc (n - 1) ≡ s)
+placed w s n q e = let l = count_is w in (grind (arith, nat_tests), grind (arith, nat_tests))
+
 -- where no stack is nothing stands
 pub nowhere : (b : Bay) (s : ℕ) → is_there b s ≡ false → stack_at b s ≡ no_stack
 nowhere b zero e = refl

@@ -1,8 +1,9 @@
 -- A crate carried from one stack to another.
 use Rattle.std.proofs.Common.{◌≡◌, ℕ, zero, suc, ◌<◌, ◌≤◌, true, not, eqb, ◌≢◌, List, [], ◌∷◌, length, sym, refl, ap, ◌∙◌, subst, ⊎_elim, arith}
 use Rattle.std.proofs.lemmas.Bool.{eq-eqb, ltb-true, eqb-false, and_parts, not-true, cases_lt}
+use Rattle.std.proofs.lemmas.Bool.Decides.{nat_tests}
 use Rattle.std.proofs.lemmas.List.{get_or_past}
-use Rattle.model.specs.Bays.{Bay, Stack, Slot, no_stack, items_at, stack_at, top_slot, taken_from, one, is_crate, is_call, out_of_range, has_space, Sound}
+use Rattle.model.specs.Bays.{Bay, Stack, Slot, is_there, no_stack, items_at, stack_at, top_slot, taken_from, one, is_crate, is_call, out_of_range, has_space, Sound}
 use Rattle.model.proofs.Stacks.{Topped, topped, top_slot_snoc}
 use Rattle.model.proofs.Changes.{Taken, taken, taken_tally}
 use Rattle.bay.specs.Ask.{height_at, opens}
@@ -30,6 +31,9 @@ spacious b (suc i) h = record {
   number = refl;
   inside = ⊎_elim (λ l. l) (λ l. absurd (omega (arith, ap (λ (s : Stack). s.clearance) (get_or_past b i no_stack l)))) (cases_lt i (length b));
 }
+
+pub is_standing : (b : Bay) (s : ℕ) → 0 < height_at b s → is_there b s ≡ true
+is_standing b s h = let p = standing b s h in let n = p.number in let l = p.inside in grind (arith, nat_tests)
 
 -- a stack that is open is another one, and has space
 pub record Open (b : Bay) (from to : ℕ) : Type 0 where

@@ -4,6 +4,7 @@ use Rattle.std.specs.List.{list_any}
 use Rattle.std.proofs.lemmas.Bool.{le-ltb}
 use Rattle.std.proofs.lemmas.Bool.Decides.{nat_tests}
 use Rattle.std.proofs.lemmas.List.{get_or-map, get_or-take, get_or_past, length-map, length-take-le, take-take, take-map, at_drop_more, at_drop_all}
+use Rattle.model.specs.Bays as model
 use Rattle.model.specs.Bays.{Stack, no_slot, one}
 use Rattle.model.specs.Targets.{lateness, lowest}
 use Rattle.bay.specs.declared.slot.Slot.{Slot}
@@ -55,10 +56,11 @@ slot_is h (suc t) d xs long ne l =
     ∙ ap slot_shown (sym (get_or-take h xs t d (omega arith)))
     ∙ sym (get_or-map slot_shown (take h xs) t d no_slot (omega (arith, length-take-le h xs long)))
 
-pub slot_none : (h t : ℕ) (xs : List Slot) → h ≤ length xs → (t ≡ 0) ⊎ (h < t) → no_slot ≡ slot_on (map slot_shown (take h xs)) t
-slot_none h zero xs long o = refl
-slot_none h (suc t) xs long (inl e) = absurd (omega arith)
-slot_none h (suc t) xs long (inr l) = sym (get_or_past (map slot_shown (take h xs)) t no_slot (omega (arith, length-map (take h xs) slot_shown, length-take-le h xs long)))
+-- at a tier that is not there stands nothing
+pub no_slot_lem : (items : List model.Slot) (t : ℕ) → (t ≡ 0) ⊎ (length items < t) → slot_on items t ≡ no_slot
+no_slot_lem items zero o = refl
+no_slot_lem items (suc t) (inl e) = absurd (omega arith)
+no_slot_lem items (suc t) (inr l) = get_or_past items t no_slot (omega arith)
 
 -- crates taken off the top
 pub fewer : (c h h' n : ℕ) (xs : List Slot) → h ≤ length xs → h' ≡ h - n

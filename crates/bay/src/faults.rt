@@ -2,7 +2,7 @@ use std::error::Error;
 use std::fmt;
 
 // Why a bay cannot be built further.
-#[derive(Clone, Copy, Debug, PartialEq, Eq, Hash)]
+#[derive(Clone, Copy, Debug, PartialEq, Eq)]
 pub enum BuildFault {
     TooManyStacks,
     ClearanceTooHigh,
@@ -30,7 +30,7 @@ impl fmt::Display for BuildFault {
 impl Error for BuildFault {}
 
 // What is looked for on the crates of a bay: two cases, which contracts count by, and not a test of the caller's.
-#[derive(Clone, Copy, Debug, PartialEq, Eq, Hash)]
+#[derive(Clone, Copy, Debug, PartialEq, Eq)]
 pub enum Label {
     Crate(u32),
     Call(u16),

@@ -10,7 +10,8 @@ mod find;
 mod moves;
 
 // The bay that a search works on: flat, with no memory of its own elsewhere, so that a copy is one block.
-// Every value is a sound bay. It is seen through `shown` and not as a model, which would hide that from whoever holds one.
+// Every value is a sound bay. It is seen through `shown`: a struct that is copied has a model only if that forgets nothing,
+// and what lies above a stack's height is forgotten.
 #[derive(Clone, Copy)]
 pub struct WorkBay {
     count: u8,

@@ -45,9 +45,13 @@ impl Small {
         ensures { IfSome result (λ target. target.stack < vec_len self.now.stacks) }
     {
         let mut first: Option<Target> = None;
-        for (stack, s) in self.stacks.iter().enumerate() {
-            if let Some((call, above)) = s.earliest() {
-                let target = Target { call, above, stack };
+        for (place, stack) in self.stacks.iter().enumerate() {
+            if let Some((call, above)) = stack.earliest() {
+                let target = Target {
+                    call,
+                    above,
+                    stack: place,
+                };
                 if first.is_none_or(|first| target < first) {
                     first = Some(target);
                 }

@@ -5,14 +5,14 @@ use std::fmt;
 // Two types, so that a call number never stands where a crate number is wanted.
 
 // The number painted on a crate's side, for life: 1 to 4,294,967,295. Zero is no crate.
-#[derive(Clone, Copy, Debug, PartialEq, Eq, PartialOrd, Ord, Hash)]
+#[derive(Clone, Copy, Debug, PartialEq, Eq)]
 pub struct CrateNumber {
     pub number: u32,
     ghost fits: { number ≤ 4294967295 },
 }
 
 // A call number, for one season: 1 to 65,535, in the order of leaving. Zero is no call: an uncalled crate has it.
-#[derive(Clone, Copy, Debug, PartialEq, Eq, PartialOrd, Ord, Hash)]
+#[derive(Clone, Copy, Debug, PartialEq, Eq)]
 pub struct CallNumber {
     pub number: u16,
     ghost fits: { number ≤ 65535 },

@@ -37,7 +37,7 @@ fn plan(request: &Request, space: &mut Workspace) -> Outcome
     }
 }
 
-// Makes a move that the search told.
+// Makes a move that the search told. The cases carry what each needs.
 fn make(bay: &mut WorkBay, made: Move)
     ensures { Makes (move_of made) (shown bay.old) (shown bay.new) }
 {

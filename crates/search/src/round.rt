@@ -10,7 +10,8 @@ use bay::work::WorkBay;
 use bounds::bound::LowerBound;
 
 // One round from a settled bay whose target is in stack `source`: depth first over the destinations of each bay, rising
-// by number. Only branches that the bound keeps within the limit are gone into.
+// by number. Only branches that the bound keeps within the limit are gone into. One function with both loops, so that each
+// way out of them is one jump.
 pub(crate) fn round<B: LowerBound>(
     frames: &mut Frames,
     start: &WorkBay,

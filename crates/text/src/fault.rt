@@ -8,7 +8,7 @@ use std::error::Error;
 use std::fmt;
 
 // What is wrong with a word, or with the line that should have one.
-#[derive(Clone, Copy, Debug, PartialEq, Eq, Hash)]
+#[derive(Clone, Copy, Debug, PartialEq, Eq)]
 pub enum Reason {
     UnknownLine,
     NoClearance,
@@ -24,7 +24,7 @@ pub enum Reason {
 }
 
 // Where a request could not be read, and why; lines and words are counted from 1.
-#[derive(Clone, Copy, Debug, PartialEq, Eq, Hash)]
+#[derive(Clone, Copy, Debug, PartialEq, Eq)]
 pub struct TextFault {
     pub line: usize,
     pub word: usize,
@@ -32,7 +32,7 @@ pub struct TextFault {
 }
 
 // Why requests could not be read: a fault of the text, or no memory for them.
-#[derive(Clone, Copy, Debug, PartialEq, Eq, Hash)]
+#[derive(Clone, Copy, Debug, PartialEq, Eq)]
 pub enum ReadFault {
     Text(TextFault),
     Memory,

@@ -8,47 +8,43 @@ pub struct Picture<'a> {
     pub bay: &'a WorkBay,
 }
 
+// What stands at one tier of one stack.
+fn write_slot<W: fmt::Write>(f: &mut fmt::Formatter<W>, slot: Option<&Slot>) -> fmt::Result {
+    match slot {
+        None => write!(f, "{:18}|", ""),
+        Some(Slot { number, call }) if call.number == 0 => write!(f, " {number:>10}       |"),
+        Some(Slot { number, call }) => write!(f, " {number:>10}:{call:<5} |"),
+    }
+}
+
 impl Picture<'_> {
-    // The highest tier at which a crate stands.
-    fn highest(&self) -> u8 {
-        (1..=self.bay.count())
-            .map(|stack| self.bay.height(stack))
+    // The number of crates in the highest stack.
+    fn highest(&self) -> usize {
+        self.bay
+            .stacks()
+            .iter()
+            .map(|stack| stack.slots().len())
             .max()
             .unwrap_or(0)
     }
 
-    // What stands at one tier of one stack.
-    fn write_place<W: fmt::Write>(
-        &self,
-        f: &mut fmt::Formatter<W>,
-        stack: u8,
-        tier: u8,
-    ) -> fmt::Result {
-        let Slot { number, call } = self.bay.slot_at(stack, tier);
-        match (number.number, call.number) {
-            (0, _) => write!(f, "{:18}|", ""),
-            (_, 0) => write!(f, " {number:>10}       |"),
-            _ => write!(f, " {number:>10}:{call:<5} |"),
-        }
-    }
-
-    fn write_tier<W: fmt::Write>(&self, f: &mut fmt::Formatter<W>, tier: u8) -> fmt::Result {
-        write!(f, "  tier {tier} |")?;
-        for stack in 1..=self.bay.count() {
-            self.write_place(f, stack, tier)?;
+    // The crates that have so many below them.
+    fn write_tier<W: fmt::Write>(&self, f: &mut fmt::Formatter<W>, below: usize) -> fmt::Result {
+        write!(f, "  tier {} |", below.saturating_add(1))?;
+        for stack in self.bay.stacks() {
+            write_slot(f, stack.slots().get(below))?;
         }
         writeln!(f)
     }
 
     // The line under the stacks: their numbers and clearances.
     fn write_floor<W: fmt::Write>(&self, f: &mut fmt::Formatter<W>) -> fmt::Result {
-        if self.bay.count() == 0 {
+        if self.bay.stacks().is_empty() {
             return writeln!(f, "  (no stacks)");
         }
         write!(f, "         ")?;
-        for stack in 1..=self.bay.count() {
-            let clearance = self.bay.clearance(stack);
-            write!(f, "  stack {stack:<2} clear {clearance}")?;
+        for (number, stack) in (1u8..).zip(self.bay.stacks()) {
+            write!(f, "  stack {number:<2} clear {}", stack.clearance())?;
         }
         writeln!(f)
     }
@@ -56,8 +52,8 @@ impl Picture<'_> {
 
 impl fmt::Display for Picture<'_> {
     fn fmt<W: fmt::Write>(&self, f: &mut fmt::Formatter<W>) -> fmt::Result {
-        for tier in (1..=self.highest()).rev() {
-            self.write_tier(f, tier)?;
+        for below in (0..self.highest()).rev() {
+            self.write_tier(f, below)?;
         }
         self.write_floor(f)
     }

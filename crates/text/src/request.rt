@@ -7,7 +7,7 @@ use bay::work::WorkBay;
 use std::str::FromStr;
 
 // Which lower bound the planner is asked to use.
-#[derive(Clone, Copy, Debug, PartialEq, Eq, Hash)]
+#[derive(Clone, Copy, Debug, PartialEq, Eq)]
 pub enum BoundChoice {
     Null,
     Blocking,

@@ -1,4 +1,4 @@
-ghost use Rattle.std.specs.Prelude.{◌≡◌, ◌<◌, ◌≤◌, [], map, length, nat_lt, MatchOption};
+ghost use Rattle.std.specs.Prelude.{◌≡◌, ◌<◌, ◌≤◌, [], map, length, nat_lt};
 ghost use Rattle.model.specs.Bays.{has_space, tally_in, top_slot};
 ghost use Rattle.model.specs.Targets.{lateness, lowest, scan_stack};
 ghost use Rattle.bay.specs.Ask.{slot_on};
@@ -93,10 +93,11 @@ impl Stack {
         best
     }
 
-    // The crate on top; none of an empty stack.
-    pub(crate) fn top(&self) -> Option<Slot>
-        ensures { MatchOption result ((stack_shown self.now).items ≡ []) (λ x. (0 < length (stack_shown self.now).items) × (slot_shown x ≡ top_slot (stack_shown self.now).items)) }
+    // The crate on top.
+    pub(crate) fn top(&self) -> Slot
+        requires { 0 < length (stack_shown self.now).items }
+        ensures { slot_shown result ≡ top_slot (stack_shown self.now).items }
     {
-        self.slots().last().copied()
+        self.slots[usize::from(self.height) - 1]
     }
 }

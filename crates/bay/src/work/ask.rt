@@ -63,11 +63,12 @@ impl WorkBay {
         self.stack(s).map_or(&[], |stack| stack.slots())
     }
 
-    // The crate on top of a stack; none where none stands.
-    pub(super) fn top(&self, s: u8) -> Option<Slot>
-        ensures { MatchOption result (height_at (shown self.now) s ≡ 0) (λ x. (0 < height_at (shown self.now) s) × (slot_shown x ≡ top_slot (stack_at (shown self.now) s).items)) }
+    // The crate on top of a stack that is not empty.
+    pub(super) fn top(&self, s: u8) -> Slot
+        requires { 0 < height_at (shown self.now) s }
+        ensures { slot_shown result ≡ top_slot (stack_at (shown self.now) s).items }
     {
-        self.stack(s)?.top()
+        self.stacks[usize::from(s) - 1].top()
     }
 
     // The crate at a tier, counted from 1 at the bottom; zero in both numbers where none stands.

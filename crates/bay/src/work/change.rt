@@ -10,7 +10,7 @@ use crate::slot::Slot;
 use crate::stack::Stack;
 use crate::work::WorkBay;
 
-// Puts a crate on top of one of some stacks.
+// Puts a crate on top of one of some stacks: of stacks, since the checker cannot lend one of those inside a bay.
 fn put_on(stacks: &mut [Stack], row: usize, slot: Slot)
     requires inside { row < length stacks.old }
     requires low { length (items_at (map stack_shown stacks.old) row) < 8 }
@@ -35,9 +35,7 @@ impl WorkBay {
         requires new { Newcomer (shown self.old) (slot_shown slot) }
         ensures { shown self.new ≡ put_on (shown self.old) s (slot_shown slot) }
     {
-        if let Some(row) = self.row(s) {
-            put_on(&mut self.stacks, row, slot);
-        }
+        put_on(&mut self.stacks, usize::from(s) - 1, slot);
     }
 
     // Takes so many crates off the top of a stack, or all that stand there.

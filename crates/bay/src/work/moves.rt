@@ -15,12 +15,10 @@ impl WorkBay {
         ensures says { result ≡ carries (shown self.old) from to }
         ensures after { shown self.new ≡ (if result then relocated (shown self.old) from to else shown self.old) }
     {
-        let Some(slot) = self.top(from) else {
-            return false;
-        };
-        if !self.is_open(from, to) {
+        if self.height(from) == 0 || !self.is_open(from, to) {
             return false;
         }
+        let slot = self.top(from);
         self.take_off(from, 1);
         self.put(to, slot);
         true
@@ -34,7 +32,7 @@ impl WorkBay {
         if above > 0 {
             return None;
         }
-        let slot = self.top(s)?;
+        let slot = self.top(s);
         self.take_off(s, 1);
         Some((slot.number, s))
     }
@@ -47,7 +45,7 @@ impl WorkBay {
         if above == 0 {
             return None;
         }
-        let slot = self.top(s)?;
+        let slot = self.top(s);
         self.carry(s, to).then_some((slot.number, s))
     }
 

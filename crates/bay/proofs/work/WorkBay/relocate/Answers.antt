@@ -19,6 +19,6 @@ returns c =
     let b = shown c.args.self.now in
     let b' = shown c.carry.new.self in
     subst (MoveTold b (relocate c.args.to) b') (sym c.then_some.ensures)
-    (told_if b b' (relocate c.args.to) (c.in_ok-slot.slot.number, c.in_ok-s.s) c.carry.result
-    (relocated_if b c.in_ok-s.s c.in_ok-s.above c.in_ok-s.ensures.value c.args.to b' (slot_shown c.in_ok-slot.slot)
-    c.if-above-eq0.false c.in_ok-slot.ensures.1 c.carry.result c.carry.ensures.says c.carry.ensures.after))
+    (told_if b b' (relocate c.args.to) (c.top-slot.result.number, c.in_ok-s.s) c.carry.result
+    (relocated_if b c.in_ok-s.s c.in_ok-s.above c.in_ok-s.ensures.value c.args.to b' (slot_shown c.top-slot.result)
+    c.if-above-eq0.false c.top-slot.ensures c.carry.result c.carry.ensures.says c.carry.ensures.after))
