@@ -28,7 +28,7 @@ impl Best {
     pub fn better(self, other: Best) -> Best
         ensures { best_shown result ≡ better (best_shown self) (best_shown other) }
     {
-        // Spelled out: comparing two pairs costs a sixth of the time of a look-ahead.
+        // Spelled out: comparing two pairs runs slower.
         if other.late < self.late || (other.late == self.late && other.above < self.above) {
             other
         } else {

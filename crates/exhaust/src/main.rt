@@ -91,7 +91,7 @@ fn build_stack(
     Ok(())
 }
 
-// The same bay for the planner.
+// The same bay for the planner, built from lists of this comparison alone.
 fn build(small: &Small) -> Result<WorkBay, BuildFault> {
     let mut bay = WorkBay::new();
     let mut numbers = 1..;

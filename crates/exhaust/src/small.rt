@@ -44,20 +44,14 @@ impl Small {
     pub(crate) fn target(&self) -> Option<Target>
         ensures { IfSome result (λ target. target.stack < vec_len self.now.stacks) }
     {
-        let mut first: Option<Target> = None;
-        for (place, stack) in self.stacks.iter().enumerate() {
-            if let Some((call, above)) = stack.earliest() {
-                let target = Target {
-                    call,
-                    above,
-                    stack: place,
-                };
-                if first.is_none_or(|first| target < first) {
-                    first = Some(target);
-                }
-            }
-        }
-        first
+        self.stacks
+            .iter()
+            .enumerate()
+            .filter_map(|(stack, s)| {
+                s.earliest()
+                    .map(|(call, above)| Target { call, above, stack })
+            })
+            .min()
     }
 
     // Takes the top crate of one stack to another.

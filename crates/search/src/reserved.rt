@@ -51,9 +51,9 @@ impl<T: Copy, const ROOM: usize> ReservedVec<T, ROOM> {
         self.items.push_reserved(item);
     }
 
-    // Takes the last item.
+    // Takes the last item, if there is one.
     pub(crate) fn pop(&mut self) -> Option<T>
-        ensures { MatchOption result (self.old ≡ []) (λ item. self.old ≡ self.new ++ item ∷ []) }
+        ensures { MatchOption result ((self.old ≡ []) × (self.new ≡ [])) (λ item. self.old ≡ self.new ++ item ∷ []) }
     {
         self.items.pop()
     }

@@ -66,6 +66,7 @@ pub(crate) fn round<B: LowerBound>(
         let Some(frame) = frames.pop() else {
             break 'depth if cut { Ended::Cut } else { Ended::Over };
         };
+        // Taken up again, a bay goes on at the next destination.
         at = frame;
         at.destination += 1;
     };

@@ -38,6 +38,7 @@ fn read_crate(word: &str) -> Result<Slot, Reason> {
     let number = number.parse().map_err(|_| Reason::Crate)?;
     let call = match call {
         Some(call) => call.parse::<NonZeroU16>().map_err(|_| Reason::Call)?.get(),
+        // An uncalled crate has call number zero.
         None => 0,
     };
     Ok(Slot {

@@ -28,7 +28,7 @@ fn take_from(stacks: &mut [Stack], row: usize, crates: u8)
 }
 
 impl WorkBay {
-    // Puts a crate that is new to the bay on top of a stack.
+    // Puts a crate that is new to the bay on top of a stack. That fewer than eight stand there is handed down with it.
     pub(super) fn put(&mut self, s: u8, slot: Slot)
         requires there { is_there (shown self.old) s ≡ true }
         requires low { height_at (shown self.old) s < 8 }

@@ -68,11 +68,11 @@ depth-preserved-in-destination g c =
 
 pub returns-then-cut-clause-meaning : goal.returns-then-cut-clause-meaning
 returns-then-cut-clause-meaning g c =
-    ap (λ z. over z c.destination.tries) (sym c.if-cut.true) ∙ sym (through c.destination.invariant.stands c.in_default-pop.ensures (omega arith))
+    ap (λ z. over z c.destination.tries) (sym c.if-cut.true) ∙ sym (through c.destination.invariant.stands c.in_default-pop.ensures.0 (omega arith))
 
 pub returns-else-cut-clause-meaning : goal.returns-else-cut-clause-meaning
 returns-else-cut-clause-meaning g c =
-    ap (λ z. over z c.destination.tries) (sym c.if-cut.false) ∙ sym (through c.destination.invariant.stands c.in_default-pop.ensures (omega arith))
+    ap (λ z. over z c.destination.tries) (sym c.if-cut.false) ∙ sym (through c.destination.invariant.stands c.in_default-pop.ensures.0 (omega arith))
 
 pub overflow_add-at : goal.overflow_add-at
 overflow_add-at g c =
