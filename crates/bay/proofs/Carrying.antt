@@ -46,7 +46,7 @@ opened b from to o =
     record { other = eqb-false from to (not-true (eqb from to) p.0); space = ltb-true (height_at b to) (stack_at b to).clearance p.1 }
 
 -- a crate that was taken off is new to what is left
-newcomer_taken : (b b' : Bay) (i : ℕ) (ys : List Slot) (y : Slot) → Sound b → Taken b b' i ys y → Newcomer b' y
+pub newcomer_taken : (b b' : Bay) (i : ℕ) (ys : List Slot) (y : Slot) → Sound b → Taken b b' i ys y → Newcomer b' y
 newcomer_taken b b' i ys y so t =
     record {
       new = let e = taken_tally b b' i ys y t (is_crate y.crate) in let m = ap one (eq-eqb y.crate y.crate refl) in omega (arith, so.once y.crate);
@@ -54,7 +54,7 @@ newcomer_taken b b' i ys y so t =
       ranged = let e = taken_tally b b' i ys y t out_of_range in omega (arith, so.ranged);
     }
 
-top_of : (xs : List Slot) → 0 < length xs → Topped xs
+pub top_of : (xs : List Slot) → 0 < length xs → Topped xs
 top_of [] q = absurd (omega arith)
 top_of (x ∷ xs) q = topped x xs
 

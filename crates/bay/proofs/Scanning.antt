@@ -1,15 +1,8 @@
 -- What the scan for the target comes to.
-use Rattle.std.proofs.Common.{◌≡◌, ℕ, ◌<◌, ◌≤◌, cond, List, [], ◌∷◌, map, length, refl, arith, Some, None, sym, ap, ◌∙◌}
+use Rattle.std.proofs.Common.{◌≡◌, ℕ, ◌<◌, ◌≤◌, cond, Some, None, sym, ap, ◌∙◌}
 use Rattle.std.proofs.lemmas.Bool.{lt-ltb, le-ltb}
 use Rattle.model.specs.Bays.{Bay}
 use Rattle.model.specs.Targets.{Candidate, nobody, scan_bay, chosen, target}
-use Rattle.bay.specs.declared.stack.Stack.{Stack}
-use Rattle.bay.specs.Stacks.{stack_shown}
-
--- no stack is left
-pub scanned : (xs : List Stack) (n : ℕ) (best : Candidate) → length xs ≡ 0 → scan_bay best n (map stack_shown xs) ≡ best
-scanned [] n best e = refl
-scanned (x ∷ xs) n best e = absurd (omega arith)
 
 -- the answer
 pub answer_some : (b : Bay) (c : Candidate) → scan_bay nobody 1 b ≡ c → c.late < 65536 → Some (c.stack, c.above) ≡ target b

@@ -12,7 +12,7 @@ use Rattle.model.proofs.Remaining.{above_small}
 use Rattle.model.proofs.Targets.{above_under}
 
 module _ (b : Bay) (s a : ℕ) (e : Some (s, a) ≡ target b) where
-  covers : a < height_at b s
+  pub covers : a < height_at b s
   covers = above_under b s a (sym e)
 
   pub few_above : Sound b → a ≤ 7

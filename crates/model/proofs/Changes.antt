@@ -139,10 +139,10 @@ topmost b k i ys y t e =
     grind (arith, above_snoc k ys y t.called)
 
 -- a stack that gets a later crate, or of which less is asked, still leaves no earlier
-no_earlier_less : (k a a' : ℕ) (xs : List Slot) → a ≤ a' → NoEarlier k a' xs → NoEarlier k a xs
+pub no_earlier_less : (k a a' : ℕ) (xs : List Slot) → a ≤ a' → NoEarlier k a' xs → NoEarlier k a xs
 no_earlier_less k a a' xs le n = grind arith
 
-no_earlier_push : (k a : ℕ) (xs : List Slot) (y : Slot) → k < 65536 → k < lateness y.call → NoEarlier k a xs → NoEarlier k a (xs ++ y ∷ [])
+pub no_earlier_push : (k a : ℕ) (xs : List Slot) (y : Slot) → k < 65536 → k < lateness y.call → NoEarlier k a xs → NoEarlier k a (xs ++ y ∷ [])
 no_earlier_push k a xs y c ly (inl l) = inl (omega (arith, lowest_snoc xs y))
 no_earlier_push k a xs y c ly (inr w) =
     inr (omega (arith, lowest_snoc xs y, w.0), omega (arith, w.1, above_snoc k xs y c ly w.0))

@@ -23,7 +23,7 @@ use Rattle.search.proofs.Standing.{ways_none}
 use Rattle.search.proofs.Trying.{estimate_small}
 
 -- the search begins with the bound of the settled bay c as its limit
-searched-rounds : (h : Bay → ℕ) (budget : ℕ) (b c : Bay) → c ≡ settle b → searched h budget b ≡ rounds_from h budget 1345 (h c) c 0
+pub searched-rounds : (h : Bay → ℕ) (budget : ℕ) (b c : Bay) → c ≡ settle b → searched h budget b ≡ rounds_from h budget 1345 (h c) c 0
 unfolding searched searched_within rounds_from
 searched-rounds h budget b c e = ap (λ x. rounds h budget 0 1345 (h x) x 0) (sym e)
 
@@ -32,7 +32,7 @@ rounded : (h : Bay → ℕ) (budget limit : ℕ) (c : Bay) (n : ℕ) → deep h 
 unfolding round_from
 rounded h budget limit c n = same_deep h budget limit (suc (limit + 0)) (suc limit) 0 c false n (omega arith) (omega arith) (omega arith)
 
-rounds-step : (h : Bay → ℕ) (budget f limit : ℕ) (c : Bay) (n : ℕ) (r : Round) → r ≡ round_from h budget limit c n
+pub rounds-step : (h : Bay → ℕ) (budget f limit : ℕ) (c : Bay) (n : ℕ) (r : Round) → r ≡ round_from h budget limit c n
     → rounds_from h budget (suc f) limit c n ≡ next_round limit (rounds_from h budget f (suc limit) c) r
 unfolding rounds_from
 rounds-step h budget f limit c n r e = ap (next_round limit (rounds h budget 0 f (suc limit) c)) (rounded h budget limit c n ∙ sym e)
@@ -42,7 +42,7 @@ round_done : (h : Bay → ℕ) (budget : ℕ) (c : Bay) → None ≡ target c �
 unfolding round_from
 round_done h budget c q = sym (whole_done h budget (h c) 0 c false 0 (ways_none c q))
 
-searched_done : (h : Bay → ℕ) (budget : ℕ) (b c : Bay) → c ≡ settle b → None ≡ target c → (fewest 0 [], 0) ≡ searched h budget b
+pub searched_done : (h : Bay → ℕ) (budget : ℕ) (b c : Bay) → c ≡ settle b → None ≡ target c → (fewest 0 [], 0) ≡ searched h budget b
 searched_done h budget b c e q = sym (searched-rounds h budget b c e ∙ rounds-step h budget 1344 (h c) c 0 (found [] 0) (round_done h budget c q))
 
 -- what the search of w comes to, and what is promised of it

@@ -103,17 +103,17 @@ module _ (h : Bay → ℕ) (budget limit : ℕ) where
     here = standing h budget limit items w s d cut n
 
     -- a stack that is passed over
-    standing_skip : d ≤ length (shown w) → opens (shown w) s d ≡ false → here ≡ standing h budget limit items w s (d + 1) cut n
+    pub standing_skip : d ≤ length (shown w) → opens (shown w) s d ≡ false → here ≡ standing h budget limit items w s (d + 1) cut n
     unfolding standing
     standing_skip l e =
         ap (λ os. unwind h budget limit (pile_on [] items) (along h budget limit (length items) (shown w) os cut n)) (left_shut (shown w) s d p l e ∙ ap (remaining (shown w) s) (sym (add-one d)))
 
     -- no try is left
-    standing_spent : d ≤ length (shown w) → opens (shown w) s d ≡ true → n ≡ budget → here ≡ spent n
+    pub standing_spent : d ≤ length (shown w) → opens (shown w) s d ≡ true → n ≡ budget → here ≡ spent n
     standing_spent l e q = over_open items w s d cut n p l e ∙ loop_spent h budget limit (pile_on [] items) (shown w) d (remaining (shown w) s (suc d)) cut n q
 
     -- a try that is cut
-    standing_cut : d ≤ length (shown w) → opens (shown w) s d ≡ true → n ≢ budget → limit < length items + 1 + h (next (shown w) d)
+    pub standing_cut : d ≤ length (shown w) → opens (shown w) s d ≡ true → n ≢ budget → limit < length items + 1 + h (next (shown w) d)
         → here ≡ standing h budget limit items w s (d + 1) true (n + 1)
     standing_cut l e ne lt =
         over_open items w s d cut n p l e
@@ -122,7 +122,7 @@ module _ (h : Bay → ℕ) (budget limit : ℕ) where
         ∙ rw (add-one d, add-one n)
 
     -- a try that ends with a plan
-    standing_found : d ≤ length (shown w) → opens (shown w) s d ≡ true → n ≢ budget → length items + 1 + h (next (shown w) d) ≤ limit
+    pub standing_found : d ≤ length (shown w) → opens (shown w) s d ≡ true → n ≢ budget → length items + 1 + h (next (shown w) d) ≤ limit
         → None ≡ target (next (shown w) d)
         → here ≡ found (framed (items ++ record { bay = w; source = s; destination = d } ∷ [])) (n + 1)
     standing_found l e ne le q =
@@ -132,7 +132,7 @@ module _ (h : Bay → ℕ) (budget limit : ℕ) where
         ∙ rw (add-one n)
 
     -- a try that is gone into
-    standing_deeper : d ≤ length (shown w) → opens (shown w) s d ≡ true → n ≢ budget → length items + 1 + h (next (shown w) d) ≤ limit
+    pub standing_deeper : d ≤ length (shown w) → opens (shown w) s d ≡ true → n ≢ budget → length items + 1 + h (next (shown w) d) ≤ limit
         → (v : WorkBay) (t : ℕ) → shown v ≡ next (shown w) d → Aims (shown v) t
         → here ≡ standing h budget limit (items ++ record { bay = w; source = s; destination = d } ∷ []) v t 1 cut (n + 1)
     standing_deeper l e ne le v t ev a =
@@ -147,7 +147,7 @@ module _ (h : Bay → ℕ) (budget limit : ℕ) where
         ∙ rw (add-one n)
 
     -- no stack is left: back to the bay before
-    standing_back : length (shown w) < d → (x : Frame)
+    pub standing_back : length (shown w) < d → (x : Frame)
         → standing h budget limit (items ++ x ∷ []) w s d cut n ≡ standing h budget limit items x.bay x.source (x.destination + 1) cut n
     standing_back l x =
         over_pile (items ++ x ∷ []) w s d cut n
@@ -156,12 +156,12 @@ module _ (h : Bay → ℕ) (budget limit : ℕ) where
         ∙ sym (over_pile items x.bay x.source (suc x.destination) cut n)
         ∙ rw (add-one x.destination)
 
-    standing_over : length (shown w) < d → standing h budget limit [] w s d cut n ≡ over cut n
+    pub standing_over : length (shown w) < d → standing h budget limit [] w s d cut n ≡ over cut n
     unfolding standing
     standing_over l = ap (λ os. unwind h budget limit [] (along h budget limit 0 (shown w) os cut n)) (remaining_end (shown w) s d l)
 
   -- a round begins with nothing kept
-  from_start : (w : WorkBay) (s n : ℕ) → Aims (shown w) s → round_from h budget limit (shown w) n ≡ standing h budget limit [] w s 1 false n
+  pub from_start : (w : WorkBay) (s n : ℕ) → Aims (shown w) s → round_from h budget limit (shown w) n ≡ standing h budget limit [] w s 1 false n
   unfolding round_from standing
   from_start w s n a = whole_open h budget limit 0 (shown w) (remaining (shown w) s 1) false n (ways_open (shown w) s a)
 

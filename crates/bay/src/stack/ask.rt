@@ -82,12 +82,16 @@ impl Stack {
         let mut best = before;
         let mut rest = self.slots();
         while let [slot, above @ ..] = rest {
-            best = best.better(Best {
-                late: slot.lateness(),
-                // Narrowed: a stack holds at most eight.
-                above: above.len() as u8,
-                stack: s,
-            });
+            let late = slot.lateness();
+            // Most crates are later than the best so far: one comparison, and no candidate built.
+            if late <= best.late {
+                best = best.better(Best {
+                    late,
+                    // Narrowed: a stack holds at most eight.
+                    above: above.len() as u8,
+                    stack: s,
+                });
+            }
             rest = above;
         }
         best

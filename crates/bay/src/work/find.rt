@@ -16,8 +16,9 @@ impl WorkBay {
         ensures means { TargetMeans (shown self.now) result }
     {
         let mut best = Best::nobody();
-        for (s, stack) in (1..).zip(self.stacks()) {
-            best = stack.best(s, best);
+        for (row, stack) in self.stacks().iter().enumerate() {
+            // Narrowed: a bay has at most twelve.
+            best = stack.best(row as u8 + 1, best);
         }
         if best.late < UNCALLED {
             Some((best.stack, best.above))
