@@ -1,4 +1,4 @@
-use Rattle.std.proofs.Common.{◌≡◌, suc, ◌≤◌, map, drop}
+use Rattle.std.proofs.Common.{◌≡◌, suc, map, drop}
 use Rattle.model.specs.Targets.{scan_bay, nobody}
 use Rattle.bay.specs.Stacks.{stack_shown}
 use Rattle.bay.specs.Target.{best_shown}
